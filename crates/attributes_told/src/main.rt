@@ -7,7 +7,7 @@ ghost use Rattle.std.specs.Prelude.{◌≡◌, ◌⊎◌};
 use ent_json::{JsonTree, read_json};
 use ent_values::Items;
 use json::{Scratch, Value};
-use lint_declared::{Attribute, Listed, faulty_lines, read_attributes, undeclared};
+use lint_declared::{DeclaredAttribute, Listed, faulty_lines, read_attributes, undeclared};
 use std::alloc::{AllocError, Global};
 use std::io;
 use std::io::{BufRead, BufReader, BufWriter, Write};
@@ -35,7 +35,7 @@ const COMMANDS: &[&str] = &[
 fn said_of_document(
     alloc: Global,
     document: &Value<'_>,
-    attributes: &[Attribute],
+    attributes: &[DeclaredAttribute],
 ) -> Result<String, AllocError> {
     match undeclared(alloc, document, attributes)? {
         None => String::from_str(alloc, "all are declared"),
@@ -47,7 +47,7 @@ fn said_of_document(
 fn said_of_attributes(
     alloc: Global,
     declarations: &Value<'_>,
-    attributes: &mut Items<Attribute>,
+    attributes: &mut Items<DeclaredAttribute>,
 ) -> Result<String, AllocError> {
     match read_attributes(alloc, declarations)? {
         Ok(declared) => {
@@ -62,7 +62,7 @@ fn said_of_attributes(
 #[derive(Drop)]
 struct Known {
     /// The attributes that are declared.
-    attributes: Items<Attribute>,
+    attributes: Items<DeclaredAttribute>,
     /// The names that are listed.
     listed: Listed,
     /// The commands since the last heading, each with a newline behind it.

@@ -4,7 +4,7 @@
 
 ghost use Rattle.std.specs.Prelude.{◌≡◌, ◌⊎◌};
 
-use ent_program::{Plan, Tally, send_tally, test_from};
+use ent_program::{Tally, TestPlan, send_tally, test_from};
 use std::io;
 use std::io::{BufReader, BufWriter, Write};
 use std::process::ExitCode;
@@ -42,7 +42,7 @@ fn run<R: Input + Print + AllocGlobal>(rt: &R) -> u8
     ) else {
         return BROKEN;
     };
-    match test_from(alloc, Plan::all(), NAME, &mut reader, &mut writer) {
+    match test_from(alloc, TestPlan::all(), NAME, &mut reader, &mut writer) {
         Ok(suite) => told(&mut writer, Tally::of(&suite)),
         Err(_) => BROKEN,
     }

@@ -9,7 +9,7 @@ use Rattle.ent_request.specs.declared.question.Question.TheVariants.{Root}
 use Rattle.ent_request.specs.Listed.{listed}
 use Rattle.ent_request.specs.Questions.{AreNumbers, BeginsWith, at_numbers, keys_at}
 use Rattle.ent_index.specs.declared.groups.Groups.{Groups}
-use Rattle.ent_index.specs.declared.names.Names.{Names}
+use Rattle.ent_index.specs.declared.names.NameCells.{NameCells}
 use Rattle.ent_index.specs.Groups.{HasSameNames, IsNamed, KeepsGroups, KeepsGroupsBut, KeepsNamesBut, holds_in, is_under, numbers_in, numbers_of}
 use Rattle.ent_cells.specs.declared.cell.Cell.{Cell}
 use Rattle.ent_cells.specs.declared.cell.Grouped.{Grouped}
@@ -77,9 +77,9 @@ stays_itself g = record { groups = λ n c h. (h, refl); names = λ p a r c h. h 
 
 pub same_named : (g g' : Groups) → HasSameNames g g' → (person action resource : List ℕ) (c : ℕ) → IsNamed g person action resource c → IsNamed g' person action resource c
 same_named g g' same person action resource c is = record {
-  by_person = ap (λ (n : Names). is_under n person c) same.persons ∙ is.by_person;
-  by_action = ap (λ (n : Names). is_under n action c) same.actions ∙ is.by_action;
-  by_resource = ap (λ (n : Names). is_under n resource c) same.resources ∙ is.by_resource;
+  by_person = ap (λ (n : NameCells). is_under n person c) same.persons ∙ is.by_person;
+  by_action = ap (λ (n : NameCells). is_under n action c) same.actions ∙ is.by_action;
+  by_resource = ap (λ (n : NameCells). is_under n resource c) same.resources ∙ is.by_resource;
 }
 
 pub joined_stays : (g g' : Groups) → KeepsGroups g g' → HasSameNames g g' → Stays g g'

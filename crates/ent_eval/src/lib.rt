@@ -9,8 +9,8 @@ mod who;
 
 pub use ent_request::{
     ACCESS_SUBJECT, ACTION, Answer, Asked, Assignment, Attribute, Category, Cause, Environment,
-    Given, LookUps, Place, Question, Questions, RESOURCE, ReadKey, Readers, Reads, Request, Status,
-    What, WhyEntry, a_key_is_looked_up_for_one_question, document_leaves_others,
+    Given, LookUps, NamePlace, Question, Questions, RESOURCE, ReadKey, Readers, Reads, Request,
+    Status, What, WhyEntry, a_key_is_looked_up_for_one_question, document_leaves_others,
     environment_leaves_others, id_attribute, keys_name_the_listed, keys_order_by_kind,
     listed_requests_look_keys_up_by_their_names, root_leaves_others, same_answer_is_equal,
     same_key_is_equal, same_look_is_equal, values_leave_others,

@@ -6,12 +6,12 @@ use Rattle.ent_evaluator.specs.declared.case.Case.{Case}
 use Rattle.ent_evaluator.specs.declared.cases.Cases.{Cases}
 use Rattle.ent_evaluator.specs.declared.memory.Memory.{Memory}
 use Rattle.ent_request.specs.declared.question.Question.{Question}
-use Rattle.ent_request.specs.declared.readers.Place.TheVariants.{Person, Action, Resource}
+use Rattle.ent_request.specs.declared.readers.NamePlace.TheVariants.{Person, Action, Resource}
 use Rattle.ent_request.specs.declared.request.Request.{Request}
 use Rattle.ent_evaluator.specs.declared.shelf.Shelf.{Shelf}
 use Rattle.ent_request.specs.Listed.{listed}
 use Rattle.ent_request.specs.Looks.{Looks}
-use Rattle.ent_evaluator.specs.declared.tests.Tests.{Tests}
+use Rattle.ent_evaluator.specs.declared.tests.PlanTests.{PlanTests}
 use Rattle.ent_evaluator.specs.Held.{HaveSameDocuments}
 use Rattle.ent_evaluator.specs.Memory.{AreShelves, Fits, IsCase, IsShelf, Remembers}
 use Rattle.ent_evaluator.specs.Tests.{AreTests}
@@ -96,7 +96,7 @@ remembers_more looks questions more memory begins has =
     }
 
 -- and where what is known of tests is counted otherwise
-pub remembers_tests : (looks : Looks) (questions : List Question) (old : Memory) (t : Tests) → AreTests looks questions old.findings.bags t → Remembers looks questions old
+pub remembers_tests : (looks : Looks) (questions : List Question) (old : Memory) (t : PlanTests) → AreTests looks questions old.findings.bags t → Remembers looks questions old
     → Remembers looks questions (record { findings = old.findings; cases = old.cases; front = old.front; tests = t })
 remembers_tests looks questions old t are has = record { findings = has.findings; cases = has.cases; tests = are }
 

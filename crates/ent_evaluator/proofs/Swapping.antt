@@ -13,7 +13,7 @@ use Rattle.ent_request.specs.declared.key.ReadKey.TheVariants as keys
 use Rattle.ent_request.proofs.Changes.{values-leave}
 use Rattle.ent_evaluator.specs.Held.{DifferAtMost, HaveSameValues}
 use Rattle.ent_eval.specs.LooksOf.{held_by, looks_of}
-use Rattle.ent_evaluator.specs.declared.parts.Parts.{Parts}
+use Rattle.ent_evaluator.specs.declared.parts.EvaluatorParts.{EvaluatorParts}
 use Rattle.ent_evaluator.specs.proofs_only.Parts.{OnlySlots}
 
 -- a key of another name doesn't name a row
@@ -38,7 +38,7 @@ no_other name held = record {
   values = λ key h. refl;
 }
 
-module _ {A P E : Type 0} (old new : Parts A P) where
+module _ {A P E : Type 0} (old new : EvaluatorParts A P) where
   -- an exchange of a row, made or refused, leaves all but keys of its name
   pub row_leaves : (number : ℕ) (row : RowKey) (values : List Value) (r : Result (Unit {0}) E)
       → OnOk r (held_by new.pdp ≡ other_values (held_by old.pdp) number row values) → OnErr r (held_by new.pdp ≡ held_by old.pdp)
@@ -50,7 +50,7 @@ module _ {A P E : Type 0} (old new : Parts A P) where
       subst (λ (h : Held). DifferAtMost row.entity (looks_of old.pdp) (looks_in h)) (sym stays)
       (no_other row.entity (held_by old.pdp))
 
-module _ {A P : Type 0} (old new : Parts A P) where
+module _ {A P : Type 0} (old new : EvaluatorParts A P) where
   -- where only modules of documents have changed each key names the same values
   pub slots_leave : OnlySlots old new → HaveSameValues (looks_of old.pdp) (looks_of new.pdp)
-  slots_leave rest key = ap (λ (v : Parts A P). (looks_of v.pdp).values key) rest
+  slots_leave rest key = ap (λ (v : EvaluatorParts A P). (looks_of v.pdp).values key) rest

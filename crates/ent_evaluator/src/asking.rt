@@ -9,13 +9,13 @@ ghost use Rattle.ent_request.specs.Questions.{BeginsWith};
 ghost use Rattle.ent_evaluator.specs.Known.{Knows};
 
 use crate::names::names_in;
-use crate::parts::Parts;
+use crate::parts::EvaluatorParts;
 use ent_eval::{Answer, Explained, Names, Request};
 use ent_finder::{Attributes, Policies};
 use ent_values::Shared;
 use std::alloc::AllocError;
 
-impl<A: Attributes, P: Policies> Parts<A, P> {
+impl<A: Attributes, P: Policies> EvaluatorParts<A, P> {
     /// The answer to any request. One that has three ids and nothing else is answered by what is remembered, where that
     /// serves.
     pub(crate) fn answer(&mut self, request: &Request) -> Result<Shared<Answer>, AllocError>

@@ -3,7 +3,7 @@
 ghost use Rattle.std.specs.Prelude.{◌≡◌};
 ghost use Rattle.ent_eval.specs.Evaluator.{evaluator_of};
 
-use crate::parts::Parts;
+use crate::parts::EvaluatorParts;
 use ent_eval::{
     Answer, Evaluates, Exchange, Explained, ListedEvaluation, Pdp, Questions, Request, Who,
 };
@@ -16,7 +16,7 @@ use std::marker::Model;
 /// evaluations, which is true of what is held.
 #[derive(Drop)]
 pub struct Evaluator<A: Attributes = AttributeFinder, P: Policies = PolicyFinder> {
-    parts: Parts<A, P>,
+    parts: EvaluatorParts<A, P>,
 }
 
 impl<A: Attributes, P: Policies> Model for Evaluator<A, P> {
@@ -45,7 +45,7 @@ impl<A: Attributes, P: Policies> Evaluates for Evaluator<A, P> {
         ensures { result ≡ evaluator_of pdp }
     {
         Evaluator {
-            parts: Parts::of(alloc, pdp),
+            parts: EvaluatorParts::of(alloc, pdp),
         }
     }
 

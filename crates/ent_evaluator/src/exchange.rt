@@ -10,14 +10,14 @@ ghost use Rattle.ent_eval.specs.Exchange.{taken_from, values_held};
 ghost use Rattle.ent_eval.specs.LooksOf.{held_by};
 ghost use Rattle.ent_evaluator.specs.proofs_only.Parts.{OnlyHeld, OnlySlots, OnlySources, StillKnows};
 
-use crate::parts::Parts;
+use crate::parts::EvaluatorParts;
 use ent_eval::Exchange;
 use ent_finder::{Attributes, Policies, RowKey};
 use ent_policy::{DocKey, Document};
 use ent_values::{Items, Value};
 use std::alloc::AllocError;
 
-impl<A: Attributes, P: Policies> Parts<A, P> {
+impl<A: Attributes, P: Policies> EvaluatorParts<A, P> {
     /// Exchanges one thing of what is held with what stands there. What is remembered and may be others then is
     /// forgotten first.
     pub(crate) fn exchange(&mut self, exchange: &mut Exchange) -> Result<(), AllocError>

@@ -19,4 +19,4 @@ mod worth;
 
 pub use evaluator::Evaluator;
 pub use memory::Memory;
-pub use parts::Parts;
+pub use parts::EvaluatorParts;

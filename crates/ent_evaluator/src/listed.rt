@@ -12,12 +12,12 @@ ghost use Rattle.ent_evaluator.specs.Tests.{IsSigned};
 ghost use Rattle.ent_evaluator.specs.proofs_only.Parts.{HoldsSame, KnowsOver, OnlyMemory};
 ghost use Rattle.ent_evaluator.specs.proofs_only.Remembered.{AreNamed, IsEvaluated, NoneFits};
 
-use crate::parts::{Parts, scene};
+use crate::parts::{EvaluatorParts, scene};
 use ent_eval::{ListedEvaluation, Names, Request};
 use ent_finder::{Attributes, Policies};
 use std::alloc::AllocError;
 
-impl<A: Attributes, P: Policies> Parts<A, P> {
+impl<A: Attributes, P: Policies> EvaluatorParts<A, P> {
     /// The answer to the request of three names (section 7), and the questions that were asked for it, each once, by
     /// their numbers. One that has no number yet gets one; the others keep theirs, whatever comes. The look-ups that
     /// the answer rests on are those of these questions. Each call counts, also one that is refused for want of memory.

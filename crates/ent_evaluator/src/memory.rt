@@ -16,7 +16,7 @@ ghost use Rattle.ent_request.specs.declared.request.Request.{Request};
 use crate::case::Case;
 use crate::cases::Cases;
 use crate::front::Front;
-use crate::tests::Tests;
+use crate::tests::PlanTests;
 use ent_eval::{ListedEvaluation, Names};
 use ent_request::{LookUps, Questions};
 use ent_values::{Shared, Text};
@@ -38,7 +38,7 @@ pub struct Memory {
     pub(crate) findings: Findings,
     pub(crate) cases: Cases,
     pub(crate) front: Front,
-    pub(crate) tests: Tests,
+    pub(crate) tests: PlanTests,
 }
 
 impl Memory {
@@ -52,7 +52,7 @@ impl Memory {
             findings: Findings::new(alloc),
             cases: Cases::new(alloc),
             front: Front::new(),
-            tests: Tests::new(alloc),
+            tests: PlanTests::new(alloc),
         }
     }
 

@@ -12,7 +12,7 @@ use std::alloc::Global;
 /// A decision point, the questions that were asked of it for listed requests, by number, and what is remembered of
 /// their evaluations. Between the steps of an exchange these don't fit each other, so they are no evaluator then.
 #[derive(Drop)]
-pub struct Parts<A: Attributes, P: Policies> {
+pub struct EvaluatorParts<A: Attributes, P: Policies> {
     pub(crate) alloc: Global,
     pub(crate) pdp: Pdp<A, P>,
     pub(crate) questions: Questions,
@@ -42,16 +42,16 @@ pub(crate) fn scene<'a, L>(
     }
 }
 
-impl<A: Attributes, P: Policies> Parts<A, P> {
+impl<A: Attributes, P: Policies> EvaluatorParts<A, P> {
     /// Those of an evaluator that remembers nothing yet. Nothing is allocated.
     ///
     /// Its contract leaves open: what the memory holds: any that is true of what is held would do.
-    pub fn of(alloc: Global, pdp: Pdp<A, P>) -> Parts<A, P>
+    pub fn of(alloc: Global, pdp: Pdp<A, P>) -> EvaluatorParts<A, P>
         ensures pdp { result.pdp ≡ pdp }
         ensures questions { result.questions ≡ [] }
         ensures knows { Knows result }
     {
-        Parts {
+        EvaluatorParts {
             alloc,
             pdp,
             questions: Questions::new(alloc),

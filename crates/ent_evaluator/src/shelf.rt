@@ -15,14 +15,14 @@ use crate::case::Case;
 use ent_eval::ListedEvaluation;
 use ent_request::LookUps;
 use memo_bags::{About, Findings, Scene, make_way, seek};
-use memo_trie::Tree;
+use memo_trie::Trie;
 use std::alloc::{AllocError, Global};
 
 /// Cases, each of which stands at the end of the way of what was found for it.
 #[derive(Drop)]
 pub(crate) struct Shelf {
     pub(crate) cases: Vec<Case>,
-    pub(crate) tree: Tree<About, usize>,
+    pub(crate) tree: Trie<About, usize>,
 }
 
 impl Shelf {
@@ -33,7 +33,7 @@ impl Shelf {
     {
         Shelf {
             cases: Vec::new(alloc),
-            tree: Tree::new(alloc),
+            tree: Trie::new(alloc),
         }
     }
 

@@ -17,7 +17,7 @@ use crate::worth::Worth;
 use ent_eval::{ListedEvaluation, Names};
 use ent_request::{LookUps, Questions};
 use ent_values::Items;
-use memo_answers::{Told, ToldCases, way_of};
+use memo_answers::{ToldAnswer, ToldCases, way_of};
 use memo_bags::{Findings, Scene};
 use memo_replay::{Joined, Pad, join};
 use std::alloc::{AllocError, Global};
@@ -28,25 +28,25 @@ const MOST_PLACES: usize = 262_144;
 /// What came of the tests of a plan, and cases by that. It stays over edits: the plan says for what, and whether that
 /// was compared with what is held now.
 #[derive(Drop)]
-pub(crate) struct Tests {
+pub(crate) struct PlanTests {
     pub(crate) plan: Option<Plan>,
     pub(crate) is_compared: bool,
-    pub(crate) learnt: memo_answers::Tests,
+    pub(crate) learnt: memo_answers::EntryTests,
     pub(crate) cases: ToldCases,
     pub(crate) way: Vec<u32>,
     pub(crate) pad: Pad,
     pub(crate) worth: Worth,
 }
 
-impl Tests {
+impl PlanTests {
     // Nothing is known of tests, for which nothing is allocated.
-    pub(crate) fn new(alloc: Global) -> Tests
+    pub(crate) fn new(alloc: Global) -> PlanTests
         ensures { result.plan ≡ None }
     {
-        Tests {
+        PlanTests {
             plan: None,
             is_compared: false,
-            learnt: memo_answers::Tests::new(alloc),
+            learnt: memo_answers::EntryTests::new(alloc),
             cases: ToldCases::new(alloc),
             way: Vec::new(alloc),
             pad: Pad::new(alloc),
@@ -128,7 +128,7 @@ impl Tests {
                 Ok(false)
             }
             Some(plan) => {
-                let learnt = memo_answers::Tests::of(alloc, plan.entries.as_slice())?;
+                let learnt = memo_answers::EntryTests::of(alloc, plan.entries.as_slice())?;
                 self.learnt = learnt;
                 self.is_compared = true;
                 self.plan = Some(plan);
@@ -235,7 +235,7 @@ impl Tests {
     {
         self.cases.put(
             alloc,
-            Told {
+            ToldAnswer {
                 way: copied(alloc, self.way.as_slice())?,
                 answer: evaluation.answer.copy()?,
                 asked: evaluation.asked.copy()?,
@@ -257,7 +257,7 @@ impl Tests {
         ensures cases { self.new.cases ≡ [] }
     {
         self.plan = None;
-        self.learnt = memo_answers::Tests::new(alloc);
+        self.learnt = memo_answers::EntryTests::new(alloc);
         self.cases = ToldCases::new(alloc);
     }
 }

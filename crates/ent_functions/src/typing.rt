@@ -46,7 +46,7 @@ impl Ordered {
 // The types of the arguments of a call. The function under any-of and all-of is given one value of the bag in the bag's
 // place.
 #[derive(Clone, Copy)]
-struct Given<'a> {
+struct GivenTypes<'a> {
     types: &'a [ArgType],
     one_of_bag: bool,
 }
@@ -67,7 +67,7 @@ fn seen(given: ArgType, one_of_bag: bool) -> ArgType
     }
 }
 
-impl Given<'_> {
+impl GivenTypes<'_> {
     // That result type, if there is one argument, and of that type.
     fn exactly_one(self, wanted: ArgType, outcome: ArgType) -> Option<ArgType>
         ensures { result ≡ exactly (wanted ∷ []) outcome (map (seen_type self.entry.one_of_bag) self.entry.types.now) }
@@ -151,7 +151,7 @@ impl Function {
             Function::AnyOf | Function::AllOf => higher_order(given),
             _ => first_order(
                 self,
-                Given {
+                GivenTypes {
                     types: given,
                     one_of_bag: false,
                 },
@@ -162,7 +162,7 @@ impl Function {
 
 // The result type of a function that takes no function.
 #[tactic(auto, unfolding(crate::specs::Types::first_order_type))]
-fn first_order(function: Function, given: Given<'_>) -> Option<ArgType>
+fn first_order(function: Function, given: GivenTypes<'_>) -> Option<ArgType>
     ensures { result ≡ first_order_type function (map (seen_type given.entry.one_of_bag) given.entry.types.now) }
 {
     let boolean = ArgType::One(DataType::Boolean);
@@ -234,7 +234,7 @@ fn higher_order(given: &[ArgType]) -> Option<ArgType>
                 .count();
             let inner = first_order(
                 *function,
-                Given {
+                GivenTypes {
                     types: given,
                     one_of_bag: true,
                 },

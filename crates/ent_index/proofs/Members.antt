@@ -15,7 +15,7 @@ use Rattle.std.proofs.lemmas.Slice.Eq.{bytes_eq-Decides}
 use Rattle.slab.specs.Slab.{SameValues, Slab, Updates, get}
 use Rattle.ent_index.specs.declared.group.Group.{Group}
 use Rattle.ent_index.specs.declared.groups.Groups.{Groups}
-use Rattle.ent_index.specs.declared.names.Names.{Names}
+use Rattle.ent_index.specs.declared.names.NameCells.{NameCells}
 use Rattle.ent_index.specs.Groups.{KeepsNamesBut, StayInBut, StayUnderBut, holds_in, is_among, is_member, is_pair, numbers_in}
 use Rattle.ent_index.specs.proofs_only.Grouped.{IsEmptied, Joins, Leaves}
 use Rattle.ent_index.specs.proofs_only.Groups.{HasAll, HasMore}
@@ -99,7 +99,7 @@ from_false false e h = h
 from_false true e h = absurd (cc)
 
 -- one change after another
-pub under_then : (a b c : Names) (cell : ℕ) → StayUnderBut cell a b → StayUnderBut cell b c → StayUnderBut cell a c
+pub under_then : (a b c : NameCells) (cell : ℕ) → StayUnderBut cell a b → StayUnderBut cell b c → StayUnderBut cell a c
 under_then a b c cell first second name x apart h = second name x apart (first name x apart h)
 
 pub names_then : (a b c : Groups) (cell : ℕ) → KeepsNamesBut cell a b → KeepsNamesBut cell b c → KeepsNamesBut cell a c
@@ -109,7 +109,7 @@ names_then a b c cell first second = record {
   resources = under_then a.resources b.resources c.resources cell first.resources second.resources;
 }
 
-pub under_same : (a : Names) (cell : ℕ) → StayUnderBut cell a a
+pub under_same : (a : NameCells) (cell : ℕ) → StayUnderBut cell a a
 under_same a cell name x apart h = h
 
 -- ---- groups

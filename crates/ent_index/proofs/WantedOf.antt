@@ -11,8 +11,8 @@ use Rattle.ent_finder.specs.declared.row.AttrKey.{AttrKey}
 use Rattle.ent_request.specs.declared.key.ReadKey.{ReadKey}
 use Rattle.ent_request.specs.declared.question.Question.{Question}
 use Rattle.ent_request.specs.declared.question.Question.TheVariants.{Root}
-use Rattle.ent_request.specs.declared.readers.Place.{Place}
-use Rattle.ent_request.specs.declared.readers.Place.TheVariants.{Person, Action, Resource}
+use Rattle.ent_request.specs.declared.readers.NamePlace.{NamePlace}
+use Rattle.ent_request.specs.declared.readers.NamePlace.TheVariants.{Person, Action, Resource}
 use Rattle.ent_request.specs.declared.key.ReadKey.TheVariants.{Attr}
 use Rattle.ent_request.specs.declared.readers.Readers.TheVariants.{Named, Nobody}
 use Rattle.ent_request.specs.Listed.{listed}
@@ -119,7 +119,7 @@ nothing_read person action resource (w ∷ wanted) =
 
 -- ---- what covers
 
-pub covers_one_named : (groups : Groups) (w : Wanted) (place : Place) (k : AttrKey) (roll : Option (List ℕ)) (set : List ℕ) → w.readers ≡ Named place → w.key.now ≡ Attr k
+pub covers_one_named : (groups : Groups) (w : Wanted) (place : NamePlace) (k : AttrKey) (roll : Option (List ℕ)) (set : List ℕ) → w.readers ≡ Named place → w.key.now ≡ Attr k
     → roll ≡ roll_under (names_at place groups) k.entity → HasAllOf roll set → CoversOne groups w set
 covers_one_named groups w place k roll set readers key is all person action resource g c named holding wanted =
     has roll all (ap (λ o. option_map_or (λ x. is_member x c) o false) is ∙ by place (name readers key (both _ _ wanted).0)) where
@@ -128,7 +128,7 @@ covers_one_named groups w place k roll set readers key is all person action reso
           (bytes_eq-Decides k.entity (name_at place person action resource)).0
           (sym (ap (λ o. is_reader o (entity_in w.key.now) person action resource) r ∙ ap (λ x. is_reader (Named place) (entity_in x) person action resource) e) ∙ h)
 
-      by : (p : Place) → k.entity ≡ name_at p person action resource → is_under (names_at p groups) k.entity c ≡ true
+      by : (p : NamePlace) → k.entity ≡ name_at p person action resource → is_under (names_at p groups) k.entity c ≡ true
       by Person e = ap (λ n. is_under groups.persons n c) e ∙ named.by_person
       by Action e = ap (λ n. is_under groups.actions n c) e ∙ named.by_action
       by Resource e = ap (λ n. is_under groups.resources n c) e ∙ named.by_resource

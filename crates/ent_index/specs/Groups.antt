@@ -8,7 +8,7 @@ use Rattle.std.specs.Ordering.{nat_cmp}
 use Rattle.slab.specs.Slab.{Slab, get}
 use Rattle.ent_request.specs.declared.key.ReadKey.{ReadKey}
 use Rattle.ent_request.specs.declared.question.Question.{Question}
-use Rattle.ent_request.specs.declared.readers.Place.TheVariants.{Person, Action, Resource}
+use Rattle.ent_request.specs.declared.readers.NamePlace.TheVariants.{Person, Action, Resource}
 use Rattle.ent_request.specs.declared.readers.Readers.{Readers}
 use Rattle.ent_request.specs.declared.readers.Readers.TheVariants.{Named}
 use Rattle.ent_request.specs.Listed.{listed}
@@ -17,7 +17,7 @@ use Rattle.ent_request.specs.Questions.{AreNumbers, at_numbers, keys_at}
 use Rattle.ent_request.specs.Readers.{entity_in, is_reader}
 use Rattle.ent_index.specs.declared.group.Group.{Group}
 use Rattle.ent_index.specs.declared.groups.Groups.{Groups}
-use Rattle.ent_index.specs.declared.names.Names.{Names}
+use Rattle.ent_index.specs.declared.names.NameCells.{NameCells}
 use Rattle.ent_index.specs.declared.wanted.Wanted.{Wanted}
 pub use Rattle.ent_index.specs.Rolls.{is_among, is_member}
 
@@ -38,7 +38,7 @@ abbrev pub holds : Groups → ℕ → ℕ → Bool
 holds groups g c = holds_in groups.groups g c
 
 -- a cell stands under a name
-abbrev pub is_under : Names → List ℕ → ℕ → Bool
+abbrev pub is_under : NameCells → List ℕ → ℕ → Bool
 is_under names name c = option_map_or (λ x. is_member x c) (tree.get (slice_cmp nat_cmp) names.rolls name) false
 
 -- a cell stands under each of its names
@@ -48,7 +48,7 @@ pub record IsNamed (groups : Groups) (person action resource : List ℕ) (c : �
   pub by_resource : is_under groups.resources resource c ≡ true
 
 -- no cell stands under any name
-abbrev pub HasNobody : Names → Type 0
+abbrev pub HasNobody : NameCells → Type 0
 HasNobody names = (name : List ℕ) (c : ℕ) → is_under names name c ≡ false
 
 -- no cell stands in any group or under any name
@@ -87,7 +87,7 @@ abbrev pub KeepsGroupsBut : ℕ → ℕ → Groups → Groups → Type 0
 KeepsGroupsBut group cell old new = StayInBut (is_pair group cell) old.groups new.groups
 
 -- each cell but this stays under its names
-abbrev pub StayUnderBut : ℕ → Names → Names → Type 0
+abbrev pub StayUnderBut : ℕ → NameCells → NameCells → Type 0
 StayUnderBut cell old new = (name : List ℕ) (c : ℕ) → nat_eq c cell ≡ false → is_under old name c ≡ true → is_under new name c ≡ true
 
 pub record KeepsNamesBut (cell : ℕ) (old new : Groups) : Type 0 where

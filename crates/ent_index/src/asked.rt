@@ -8,7 +8,7 @@ ghost use Rattle.ent_request.specs.Noted.{read_cmp};
 ghost use Rattle.ent_index.specs.Asked.{asks_policy};
 ghost use Rattle.ent_index.specs.proofs_only.Asked.{IsFirst, key_of_row, policy_order};
 
-use crate::cells::Cells;
+use crate::cells::SomeCells;
 use ent_finder::{AttrKey, RowKey};
 use ent_policy::{Kind, Name, Reference, VersionConstraints};
 use ent_request::ReadKey;
@@ -66,7 +66,7 @@ pub(crate) fn first_key(alloc: Global, kind: Kind, id: &str) -> Result<ReadKey, 
 /// Of keys in their order those that are references of a kind and an id. Those behind them aren't looked at.
 pub(crate) fn references(
     alloc: Global,
-    range: Range<'_, ReadKey, Cells>,
+    range: Range<'_, ReadKey, SomeCells>,
     kind: Kind,
     id: &str,
 ) -> Result<Items<ReadKey>, AllocError>

@@ -1,4 +1,4 @@
-//! Cells in rising order.
+//! SomeCells in rising order.
 
 ghost use Rattle.std.specs.Prelude.{◌≡◌, ◌↔◌, IfOk, IsTrue, OnErr, OnOk};
 ghost use Rattle.ent_index.specs.Cells.{has_cell, in_order, no_cells};
@@ -9,11 +9,11 @@ use std::marker::Model;
 
 /// Some cells, each once, in rising order.
 #[derive(Drop)]
-pub(crate) struct Cells {
+pub(crate) struct SomeCells {
     cells: Vec<usize>,
 }
 
-impl Model for Cells {
+impl Model for SomeCells {
     ghost use Rattle.std.specs.Coded.{coded_ℕ};
     ghost use Rattle.std.specs.FinMap.{from_sorted, is_sorted};
     ghost use Rattle.std.specs.FinSet.{code};
@@ -31,14 +31,14 @@ impl Model for Cells {
     ghost invariant = { λ c. T (is_sorted nat_cmp (marked c.cells.items)) };
 }
 
-impl Cells {
+impl SomeCells {
     /// One cell, for which at most one allocation is made.
-    pub(crate) fn of_one(alloc: Global, cell: usize) -> Result<Cells, AllocError>
+    pub(crate) fn of_one(alloc: Global, cell: usize) -> Result<SomeCells, AllocError>
         ensures { IfOk result (λ c. c ≡ with_cell no_cells cell) }
     {
         let mut cells = Vec::with_capacity(alloc, 1)?;
         cells.push(cell)?;
-        Ok(Cells { cells })
+        Ok(SomeCells { cells })
     }
 
     /// The cells.

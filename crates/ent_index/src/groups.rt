@@ -12,10 +12,10 @@ ghost use Rattle.ent_index.specs.proofs_only.Grouped.{IsGroupOf, roll_under};
 ghost use Rattle.ent_index.specs.proofs_only.Groups.{CoversOne, HasAll, HasAllOf, HasAsking, HasMore, names_at};
 
 use crate::group::{Group, is_group_of, make_group, mixed, put_cell, take_cell};
-use crate::names::Names;
+use crate::names::NameCells;
 use crate::roll::Roll;
 use crate::wanted::{Wanted, is_one_read};
-use ent_request::{Place, ReadKey, Readers};
+use ent_request::{NamePlace, ReadKey, Readers};
 use ent_values::Text;
 use slab::Slab;
 use std::alloc::{AllocError, Global};
@@ -28,9 +28,9 @@ pub struct Groups {
     alloc: Global,
     groups: Slab<Group>,
     found: BTreeMap<u64, u32>,
-    persons: Names,
-    actions: Names,
-    resources: Names,
+    persons: NameCells,
+    actions: NameCells,
+    resources: NameCells,
 }
 
 impl Groups {
@@ -44,9 +44,9 @@ impl Groups {
             alloc,
             groups: Slab::new(alloc),
             found: BTreeMap::new(alloc),
-            persons: Names::new(alloc),
-            actions: Names::new(alloc),
-            resources: Names::new(alloc),
+            persons: NameCells::new(alloc),
+            actions: NameCells::new(alloc),
+            resources: NameCells::new(alloc),
         }
     }
 
@@ -244,7 +244,12 @@ impl Groups {
     }
 
     // Puts cells into such a roll, where they are those of a name at a place.
-    fn add_named(&self, place: Place, one: &Wanted<'_>, cells: &mut Roll) -> Result<(), AllocError>
+    fn add_named(
+        &self,
+        place: NamePlace,
+        one: &Wanted<'_>,
+        cells: &mut Roll,
+    ) -> Result<(), AllocError>
         requires { one.now.readers ≡ Named place }
         ensures covers { OnOk result (CoversOne self.now one.now cells.new) }
         ensures more { OnOk result (HasMore cells.old cells.new) }
@@ -285,13 +290,13 @@ impl Groups {
     }
 
     // The cells of a name at a place, if there are any.
-    fn named(&self, place: Place, name: &Text) -> Option<&Roll>
+    fn named(&self, place: NamePlace, name: &Text) -> Option<&Roll>
         ensures { option_copied result ≡ roll_under (names_at place self.now) name.now }
     {
         match place {
-            Place::Person => self.persons.get(name),
-            Place::Action => self.actions.get(name),
-            Place::Resource => self.resources.get(name),
+            NamePlace::Person => self.persons.get(name),
+            NamePlace::Action => self.actions.get(name),
+            NamePlace::Resource => self.resources.get(name),
         }
     }
 

@@ -8,7 +8,7 @@ ghost use Rattle.ent_index.specs.Index.{Adds, Forgets, HasCell, cells_of, has, i
 ghost use Rattle.ent_index.specs.proofs_only.Steps.{is_pair, is_read};
 
 use crate::asked::{first_key, key_of_row, references};
-use crate::cells::Cells;
+use crate::cells::SomeCells;
 use crate::readers::{put_cell, take_cell};
 use ent_finder::RowKey;
 use ent_policy::Kind;
@@ -22,7 +22,7 @@ use std::marker::Model;
 #[derive(Drop)]
 pub struct Index {
     alloc: Global,
-    readers: BTreeMap<ReadKey, Cells>,
+    readers: BTreeMap<ReadKey, SomeCells>,
 }
 
 impl Model for Index {
@@ -87,7 +87,8 @@ impl Index {
             return Ok(());
         }
         let copy = key.copy(self.alloc)?;
-        self.readers.insert(copy, Cells::of_one(self.alloc, cell)?)?;
+        self.readers
+            .insert(copy, SomeCells::of_one(self.alloc, cell)?)?;
         Ok(())
     }
 

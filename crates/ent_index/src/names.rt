@@ -12,16 +12,16 @@ use std::collections::BTreeMap;
 
 /// The cells of each name.
 #[derive(Drop)]
-pub(crate) struct Names {
+pub(crate) struct NameCells {
     rolls: BTreeMap<Text, Roll>,
 }
 
-impl Names {
+impl NameCells {
     /// No names, for which nothing is allocated.
-    pub(crate) fn new(alloc: Global) -> Names
+    pub(crate) fn new(alloc: Global) -> NameCells
         ensures { HasNobody result }
     {
-        Names {
+        NameCells {
             rolls: BTreeMap::new(alloc),
         }
     }

@@ -6,14 +6,14 @@ ghost use Rattle.ent_request.specs.Noted.{read_cmp};
 ghost use Rattle.ent_index.specs.Cells.{no_cells};
 ghost use Rattle.ent_index.specs.proofs_only.Steps.{Puts, with_cell, without_cell};
 
-use crate::cells::Cells;
+use crate::cells::SomeCells;
 use ent_request::ReadKey;
 use std::alloc::AllocError;
 use std::collections::BTreeMap;
 
 /// Puts a cell in under a key that has cells. After a refusal these are as before.
 pub(crate) fn put_cell(
-    readers: &mut BTreeMap<ReadKey, Cells>,
+    readers: &mut BTreeMap<ReadKey, SomeCells>,
     key: &ReadKey,
     cell: usize,
 ) -> Result<(), AllocError>
@@ -28,7 +28,11 @@ pub(crate) fn put_cell(
 }
 
 /// Takes a cell out under a key, and says whether the key is left with no cell. It takes no memory.
-pub(crate) fn take_cell(readers: &mut BTreeMap<ReadKey, Cells>, key: &ReadKey, cell: usize) -> bool
+pub(crate) fn take_cell(
+    readers: &mut BTreeMap<ReadKey, SomeCells>,
+    key: &ReadKey,
+    cell: usize,
+) -> bool
     ensures puts { Puts (λ cells. without_cell cells cell) readers.old readers.new key.now }
     ensures last { IsTrue result ↔ (get read_cmp readers.new key.now ≡ Some no_cells) }
 {

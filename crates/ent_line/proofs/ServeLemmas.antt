@@ -8,8 +8,8 @@ use Rattle.std.specs.List.{flat_map}
 use Rattle.std.specs.Io.KnownBytes.{Consumes, Appends, IsAtEnd}
 use Rattle.std.proofs.KnownBytes.{Consumes-nil, Consumes-trans, Appends-nil, Appends-trans}
 use Rattle.ent_line.specs.declared.fault.ServeFault.{ServeFault}
-use Rattle.ent_line.specs.declared.input.Piece.{Piece}
-use Rattle.ent_line.specs.declared.input.Piece.TheVariants.{End, Part, Line}
+use Rattle.ent_line.specs.declared.input.InputPiece.{InputPiece}
+use Rattle.ent_line.specs.declared.input.InputPiece.TheVariants.{End, Part, Line}
 use Rattle.ent_line.specs.Lines.{NoNewline, ended, line_limit, Splits}
 use Rattle.ent_line.specs.proofs_only.Pieces.{AnswersLine, TakesPiece, kept_of}
 use Rattle.ent_line.specs.Replies.{Answer, line_of}
@@ -73,8 +73,8 @@ written_more wrote holds then answers a p q = subst (Appends wrote then) (flat_m
 
 -- ---- which piece it was
 
-pub took : (left next : Option (List ℕ)) (held new : List ℕ) (x y : Piece) → x ≡ y → TakesPiece left next held new (Ok x) → TakesPiece left next held new (Ok y)
-took left next held new x y e t = subst (λ (z : Piece). TakesPiece left next held new (Ok z)) e t
+pub took : (left next : Option (List ℕ)) (held new : List ℕ) (x y : InputPiece) → x ≡ y → TakesPiece left next held new (Ok x) → TakesPiece left next held new (Ok y)
+took left next held new x y e t = subst (λ (z : InputPiece). TakesPiece left next held new (Ok z)) e t
 
 -- ---- runs
 

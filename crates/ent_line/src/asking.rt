@@ -6,7 +6,7 @@ ghost use Rattle.ent_line.specs.Asked.{command_in, form_of};
 ghost use Rattle.ent_line.specs.Asking.{is_asking, only_asks};
 ghost use Rattle.ent_line.specs.proofs_only.CommandView.{command_view, session_view};
 
-use crate::command::{Command, Question, WORDS, command_of};
+use crate::command::{Command, QuestionCommand, WORDS, command_of};
 use crate::keys::number_at;
 use crate::refusal::Refusal;
 use ent_json::{JsonTree, read_json, text_at};
@@ -39,7 +39,7 @@ fn is_asking<J: JsonTree>(command: &Command<'_, J>) -> bool
     ensures { result ≡ is_asking (command_view J.content command.now) }
 {
     match command {
-        Command::Question(Question::Work) => false,
+        Command::Question(QuestionCommand::Work) => false,
         Command::Question(_) => true,
         _ => false,
     }

@@ -7,56 +7,56 @@ ghost use Rattle.ent_line.specs.Asked.{naming, setting, storing, withdrawing};
 ghost use Rattle.ent_line.specs.Keys.{null_or_text_at};
 ghost use Rattle.ent_line.specs.proofs_only.CommandView.{change_view};
 
-use crate::command::Change;
+use crate::command::EditCommand;
 use crate::keys::{kind_named, null_or_text_at, number_at, row_in};
 use ent_json::{JsonTree, text_at};
 use ent_table::List;
 
 /// `person.add`, `action.add` and `resource.add`.
 #[tactic(auto, unfolding(crate::specs::Asked::naming))]
-pub(crate) fn add_name<J: JsonTree>(list: List, object: &J) -> Option<Change<'_, J>>
+pub(crate) fn add_name<J: JsonTree>(list: List, object: &J) -> Option<EditCommand<'_, J>>
     ensures { option_map (change_view J.content) result
         ≡ naming (asked.add_name list) (J.content object.now) }
 {
     let name = text_at(object, "name")?;
-    Some(Change::AddName(list, name))
+    Some(EditCommand::AddName(list, name))
 }
 
 /// `person.drop`, `action.drop` and `resource.drop`.
 #[tactic(auto, unfolding(crate::specs::Asked::naming))]
-pub(crate) fn drop_name<J: JsonTree>(list: List, object: &J) -> Option<Change<'_, J>>
+pub(crate) fn drop_name<J: JsonTree>(list: List, object: &J) -> Option<EditCommand<'_, J>>
     ensures { option_map (change_view J.content) result
         ≡ naming (asked.drop_name list) (J.content object.now) }
 {
     let name = text_at(object, "name")?;
-    Some(Change::DropName(list, name))
+    Some(EditCommand::DropName(list, name))
 }
 
 /// `policy.add`.
 #[tactic(auto, unfolding(crate::specs::Asked::storing))]
-pub(crate) fn add_policy<J: JsonTree>(object: &J) -> Option<Change<'_, J>>
+pub(crate) fn add_policy<J: JsonTree>(object: &J) -> Option<EditCommand<'_, J>>
     ensures { option_map (change_view J.content) result
         ≡ storing asked.add_policy (J.content object.now) }
 {
     let number = number_at(object, "module", 0)?;
     let document = object.get("document")?;
-    Some(Change::AddPolicy(number, document))
+    Some(EditCommand::AddPolicy(number, document))
 }
 
 /// `policy.replace`.
 #[tactic(auto, unfolding(crate::specs::Asked::storing))]
-pub(crate) fn replace_policy<J: JsonTree>(object: &J) -> Option<Change<'_, J>>
+pub(crate) fn replace_policy<J: JsonTree>(object: &J) -> Option<EditCommand<'_, J>>
     ensures { option_map (change_view J.content) result
         ≡ storing asked.replace_policy (J.content object.now) }
 {
     let number = number_at(object, "module", 0)?;
     let document = object.get("document")?;
-    Some(Change::ReplacePolicy(number, document))
+    Some(EditCommand::ReplacePolicy(number, document))
 }
 
 /// `policy.withdraw`.
 #[tactic(auto, unfolding(crate::specs::Asked::withdrawing))]
-pub(crate) fn withdraw_policy<J: JsonTree>(object: &J) -> Option<Change<'_, J>>
+pub(crate) fn withdraw_policy<J: JsonTree>(object: &J) -> Option<EditCommand<'_, J>>
     ensures { option_map (change_view J.content) result
         ≡ withdrawing (J.content object.now) }
 {
@@ -64,43 +64,43 @@ pub(crate) fn withdraw_policy<J: JsonTree>(object: &J) -> Option<Change<'_, J>>
     let kind = kind_named(text_at(object, "kind")?)?;
     let id = text_at(object, "id")?;
     let version = text_at(object, "version")?;
-    Some(Change::WithdrawPolicy(number, kind, id, version))
+    Some(EditCommand::WithdrawPolicy(number, kind, id, version))
 }
 
 /// `attr.set`.
 #[tactic(auto, unfolding(crate::specs::Asked::setting))]
-pub(crate) fn set_attribute<J: JsonTree>(object: &J) -> Option<Change<'_, J>>
+pub(crate) fn set_attribute<J: JsonTree>(object: &J) -> Option<EditCommand<'_, J>>
     ensures { option_map (change_view J.content) result
         ≡ setting (J.content object.now) }
 {
     let number = number_at(object, "module", 0)?;
     let row = row_in(object)?;
-    Some(Change::SetAttribute(number, row))
+    Some(EditCommand::SetAttribute(number, row))
 }
 
 /// `root.set`.
-pub(crate) fn set_root<J: JsonTree>(object: &J) -> Option<Change<'_, J>>
+pub(crate) fn set_root<J: JsonTree>(object: &J) -> Option<EditCommand<'_, J>>
     ensures { option_map (change_view J.content) result
         ≡ option_map asked.set_root (get (codes "reference") (J.content object.now)) }
 {
     let reference = object.get("reference")?;
-    Some(Change::SetRoot(reference))
+    Some(EditCommand::SetRoot(reference))
 }
 
 /// `day.set`.
-pub(crate) fn set_day<J: JsonTree>(object: &J) -> Option<Change<'_, J>>
+pub(crate) fn set_day<J: JsonTree>(object: &J) -> Option<EditCommand<'_, J>>
     ensures { option_map (change_view J.content) result
         ≡ option_map asked.set_day (null_or_text_at (codes "day") (J.content object.now)) }
 {
     let day = null_or_text_at(object, "day")?;
-    Some(Change::SetDay(day))
+    Some(EditCommand::SetDay(day))
 }
 
 /// `moment.set`.
-pub(crate) fn set_moment<J: JsonTree>(object: &J) -> Option<Change<'_, J>>
+pub(crate) fn set_moment<J: JsonTree>(object: &J) -> Option<EditCommand<'_, J>>
     ensures { option_map (change_view J.content) result
         ≡ option_map asked.set_moment (null_or_text_at (codes "moment") (J.content object.now)) }
 {
     let moment = null_or_text_at(object, "moment")?;
-    Some(Change::SetMoment(moment))
+    Some(EditCommand::SetMoment(moment))
 }

@@ -15,7 +15,7 @@ use crate::questions::{
     who,
 };
 use crate::refusal::Refusal;
-use crate::wanted::Wanted;
+use crate::wanted::WantedCells;
 use ent_json::JsonTree;
 use ent_policy::Kind;
 use ent_table::List;
@@ -24,16 +24,16 @@ use ent_table::List;
 #[derive(Drop)]
 pub(crate) enum Command<'a, J> {
     /// A change of what is held.
-    Change(Change<'a, J>),
+    Change(EditCommand<'a, J>),
     /// A question about it.
-    Question(Question<'a, J>),
+    Question(QuestionCommand<'a, J>),
     /// Marks the present table.
     Mark,
 }
 
 /// What makes an edit, if what it says can be read. The number of a module is none where it is negative.
 #[derive(Drop)]
-pub(crate) enum Change<'a, J> {
+pub(crate) enum EditCommand<'a, J> {
     /// Puts a name last in a list.
     AddName(List, &'a str),
     /// Takes a name out of a list.
@@ -56,7 +56,7 @@ pub(crate) enum Change<'a, J> {
 
 /// What is asked about what is held, and leaves it.
 #[derive(Drop)]
-pub(crate) enum Question<'a, J> {
+pub(crate) enum QuestionCommand<'a, J> {
     /// All cells.
     Table,
     /// The cell of a person, an action and a resource.
@@ -84,7 +84,7 @@ pub(crate) enum Question<'a, J> {
     /// What stands, in numbers.
     State,
     /// The cells of some person, action, resource and decisions.
-    Cells(Wanted<'a, J>),
+    Cells(WantedCells<'a, J>),
     /// The values that are held of an entity of a category, which may be none.
     Attributes(Option<&'a str>, &'a str),
     /// The documents that are held, or those of an id.
@@ -150,7 +150,7 @@ const STORING: &[&str] = &["do", "session", "document", "module"];
 fn makes<'a, J: JsonTree>(
     object: &'a J,
     keys: &[&str],
-    read: Option<Change<'a, J>>,
+    read: Option<EditCommand<'a, J>>,
 ) -> Result<Command<'a, J>, Refusal>
     ensures { asked_view J.content result ≡ asks_in (map (λ k. k.now) keys.now)
         (option_map asked.change (option_map (change_view J.content) read.entry)) (J.content object.now) }
@@ -168,7 +168,7 @@ fn makes<'a, J: JsonTree>(
 fn asks<'a, J: JsonTree>(
     object: &'a J,
     keys: &[&str],
-    read: Option<Question<'a, J>>,
+    read: Option<QuestionCommand<'a, J>>,
 ) -> Result<Command<'a, J>, Refusal>
     ensures { asked_view J.content result ≡ asks_in (map (λ k. k.now) keys.now)
         (option_map asked.question (option_map (question_view J.content) read.entry)) (J.content object.now) }
@@ -235,14 +235,14 @@ pub(crate) fn command_of<'a, J: JsonTree>(
         "root.set" => makes(object, &["do", "session", "reference"], set_root(object)),
         "day.set" => makes(object, &["do", "session", "day"], set_day(object)),
         "moment.set" => makes(object, &["do", "session", "moment"], set_moment(object)),
-        "table" => asks(object, &["do", "session"], Some(Question::Table)),
+        "table" => asks(object, &["do", "session"], Some(QuestionCommand::Table)),
         "cell" => asks(
             object,
             &["do", "session", "action", "person", "resource"],
             cell(object),
         ),
         "ask" => asks(object, &["do", "session", "request"], ask(object)),
-        "counts" => asks(object, &["do", "session"], Some(Question::Counts)),
+        "counts" => asks(object, &["do", "session"], Some(QuestionCommand::Counts)),
         "can" => asks(object, &["do", "session", "person"], can(object)),
         "who" => asks(
             object,
@@ -254,12 +254,12 @@ pub(crate) fn command_of<'a, J: JsonTree>(
             &["do", "session", "policy", "rule"],
             by_rule(object),
         ),
-        "notices" => asks(object, &["do", "session"], Some(Question::Notices)),
+        "notices" => asks(object, &["do", "session"], Some(QuestionCommand::Notices)),
         "changes" => asks(object, &["do", "session", "since"], changes(object)),
-        "work" => asks(object, &["do", "session"], Some(Question::Work)),
+        "work" => asks(object, &["do", "session"], Some(QuestionCommand::Work)),
         "format" => asks(object, &["do", "session", "version"], format(object)),
         "dump" => asks(object, &["do", "session", "version"], dump(object)),
-        "state" => asks(object, &["do", "session"], Some(Question::State)),
+        "state" => asks(object, &["do", "session"], Some(QuestionCommand::State)),
         "cells" => asks(
             object,
             &["do", "session", "action", "decisions", "person", "resource"],
@@ -284,8 +284,8 @@ pub(crate) fn command_of<'a, J: JsonTree>(
             ],
             explain(object),
         ),
-        "faults" => asks(object, &["do", "session"], Some(Question::Faults)),
-        "limits" => asks(object, &["do", "session"], Some(Question::Limits)),
+        "faults" => asks(object, &["do", "session"], Some(QuestionCommand::Faults)),
+        "limits" => asks(object, &["do", "session"], Some(QuestionCommand::Limits)),
         "names" => asks(
             object,
             &["do", "session", "count", "from", "list"],

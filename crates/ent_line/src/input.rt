@@ -13,7 +13,7 @@ pub const LINE_LIMIT: usize = 1_048_576;
 
 /// What one look at the reader's buffer gave.
 #[derive(Clone, Copy, PartialEq, Eq)]
-pub(crate) enum Piece {
+pub(crate) enum InputPiece {
     /// The input is at its end.
     End,
     /// A part of a line.
@@ -40,7 +40,7 @@ fn newline_at(bytes: &[u8]) -> usize
 pub(crate) fn take_piece<R: BufRead>(
     reader: &mut R,
     line: &mut Vec<u8>,
-) -> Result<Piece, ServeFault>
+) -> Result<InputPiece, ServeFault>
     requires room { vec_len line.old ≤ line_limit + 1 }
     requires taken { line_limit + 1 ≤ vec_capacity line.old }
     ensures piece { TakesPiece (R.remaining reader.old) (R.remaining reader.new) line.old.items line.new.items result }
@@ -49,12 +49,12 @@ pub(crate) fn take_piece<R: BufRead>(
 {
     let available = match reader.fill_buf() {
         Ok(available) => available,
-        Err(e) if e.kind() == ErrorKind::Interrupted => return Ok(Piece::Part),
+        Err(e) if e.kind() == ErrorKind::Interrupted => return Ok(InputPiece::Part),
         Err(_) => return Err(ServeFault::Read),
     };
     let shown = available.len();
     if shown == 0 {
-        return Ok(Piece::End);
+        return Ok(InputPiece::End);
     }
     let end = newline_at(available);
     let room = LINE_LIMIT + 1 - line.len();
@@ -64,10 +64,10 @@ pub(crate) fn take_piece<R: BufRead>(
         let others = &available[end + 1..];
         let is_followed = newline_at(others) < others.len();
         reader.consume(end + 1);
-        Ok(Piece::Line(is_followed))
+        Ok(InputPiece::Line(is_followed))
     } else {
         reader.consume(end);
-        Ok(Piece::Part)
+        Ok(InputPiece::Part)
     }
 }
 

@@ -6,7 +6,7 @@ ghost use Rattle.ent_line.specs.Edits.{edit_of, module_number, row_fault};
 ghost use Rattle.ent_line.specs.proofs_only.CommandView.{change_view, row_view};
 ghost use Rattle.ent_line.specs.proofs_only.Making.{Makes};
 
-use crate::command::Change;
+use crate::command::EditCommand;
 use crate::keys::AskedRow;
 use crate::reading::{read_day, read_moment, read_root, read_row};
 use ent_json::JsonTree;
@@ -177,20 +177,23 @@ fn moment_set(alloc: Global, moment: Option<&str>) -> Result<Edit, NoEdit>
 }
 
 /// The edit that a change makes, with what is read of it.
-pub(crate) fn read_edit<J: JsonTree>(alloc: Global, change: Change<'_, J>) -> Result<Edit, NoEdit>
+pub(crate) fn read_edit<J: JsonTree>(
+    alloc: Global,
+    change: EditCommand<'_, J>,
+) -> Result<Edit, NoEdit>
     ensures { Makes result (edit_of (change_view J.content change.entry)) }
 {
     match change {
-        Change::AddName(list, name) => name_added(alloc, list, name),
-        Change::DropName(list, name) => name_dropped(alloc, list, name),
-        Change::AddPolicy(number, document) => policy_added(alloc, number, document),
-        Change::ReplacePolicy(number, document) => policy_replaced(alloc, number, document),
-        Change::WithdrawPolicy(number, kind, id, version) => {
+        EditCommand::AddName(list, name) => name_added(alloc, list, name),
+        EditCommand::DropName(list, name) => name_dropped(alloc, list, name),
+        EditCommand::AddPolicy(number, document) => policy_added(alloc, number, document),
+        EditCommand::ReplacePolicy(number, document) => policy_replaced(alloc, number, document),
+        EditCommand::WithdrawPolicy(number, kind, id, version) => {
             policy_withdrawn(alloc, number, kind, id, version)
         }
-        Change::SetAttribute(number, row) => attribute_set(alloc, number, &row),
-        Change::SetRoot(reference) => root_set(alloc, reference),
-        Change::SetDay(day) => day_set(alloc, day),
-        Change::SetMoment(moment) => moment_set(alloc, moment),
+        EditCommand::SetAttribute(number, row) => attribute_set(alloc, number, &row),
+        EditCommand::SetRoot(reference) => root_set(alloc, reference),
+        EditCommand::SetDay(day) => day_set(alloc, day),
+        EditCommand::SetMoment(moment) => moment_set(alloc, moment),
     }
 }

@@ -11,7 +11,7 @@ ghost use Rattle.ent_line.specs.Keys.{number_at, number_in};
 ghost use Rattle.ent_line.specs.Wanted.{optional_text, wanted_in};
 ghost use Rattle.ent_line.specs.proofs_only.CommandView.{question_view};
 
-use crate::command::Question;
+use crate::command::QuestionCommand;
 use crate::keys::{category_named, list_named, null_or_text_at, number_at, number_in};
 use crate::wanted::{optional_text, wanted_in};
 use ent_json::{JsonTree, flag_at, text_at};
@@ -28,31 +28,31 @@ fn triple_in<J: JsonTree>(object: &J) -> Option<(&str, &str, &str)>
 }
 
 /// `cell`.
-pub(crate) fn cell<J: JsonTree>(object: &J) -> Option<Question<'_, J>>
+pub(crate) fn cell<J: JsonTree>(object: &J) -> Option<QuestionCommand<'_, J>>
     ensures { option_map (question_view J.content) result
         ≡ option_map asked.cell (triple_in (J.content object.now)) }
 {
     let (person, action, resource) = triple_in(object)?;
-    Some(Question::Cell(person, action, resource))
+    Some(QuestionCommand::Cell(person, action, resource))
 }
 
 /// `explain`, with documents or without. Beside a request no names stand.
-fn explanation<J: JsonTree>(object: &J, whole: bool) -> Option<Question<'_, J>>
+fn explanation<J: JsonTree>(object: &J, whole: bool) -> Option<QuestionCommand<'_, J>>
     ensures { option_map (question_view J.content) result ≡ explanation_asked whole (J.content object.now) }
 {
     let Some(request) = object.get("request") else {
         let (person, action, resource) = triple_in(object)?;
-        return Some(Question::ExplainCell(whole, person, action, resource));
+        return Some(QuestionCommand::ExplainCell(whole, person, action, resource));
     };
     if !object.has_only(&["do", "session", "documents", "request"]) {
         return None;
     }
-    Some(Question::Explain(whole, request))
+    Some(QuestionCommand::Explain(whole, request))
 }
 
 /// `explain`.
 #[tactic(auto, unfolding(crate::specs::Asked::explain_asked))]
-pub(crate) fn explain<J: JsonTree>(object: &J) -> Option<Question<'_, J>>
+pub(crate) fn explain<J: JsonTree>(object: &J) -> Option<QuestionCommand<'_, J>>
     ensures { option_map (question_view J.content) result ≡ explain_asked (J.content object.now) }
 {
     let whole = flag_at(object, "documents")?;
@@ -60,108 +60,108 @@ pub(crate) fn explain<J: JsonTree>(object: &J) -> Option<Question<'_, J>>
 }
 
 /// `ask`.
-pub(crate) fn ask<J: JsonTree>(object: &J) -> Option<Question<'_, J>>
+pub(crate) fn ask<J: JsonTree>(object: &J) -> Option<QuestionCommand<'_, J>>
     ensures { option_map (question_view J.content) result
         ≡ option_map asked.ask (get (codes "request") (J.content object.now)) }
 {
     let request = object.get("request")?;
-    Some(Question::Ask(request))
+    Some(QuestionCommand::Ask(request))
 }
 
 /// `can`.
-pub(crate) fn can<J: JsonTree>(object: &J) -> Option<Question<'_, J>>
+pub(crate) fn can<J: JsonTree>(object: &J) -> Option<QuestionCommand<'_, J>>
     ensures { option_map (question_view J.content) result
         ≡ option_map asked.can (text_at (codes "person") (J.content object.now)) }
 {
     let person = text_at(object, "person")?;
-    Some(Question::Can(person))
+    Some(QuestionCommand::Can(person))
 }
 
 /// `who`.
 #[tactic(auto, unfolding(crate::specs::Asked::who_asked))]
-pub(crate) fn who<J: JsonTree>(object: &J) -> Option<Question<'_, J>>
+pub(crate) fn who<J: JsonTree>(object: &J) -> Option<QuestionCommand<'_, J>>
     ensures { option_map (question_view J.content) result
         ≡ who_asked (J.content object.now) }
 {
     let action = text_at(object, "action")?;
     let resource = text_at(object, "resource")?;
-    Some(Question::Who(action, resource))
+    Some(QuestionCommand::Who(action, resource))
 }
 
 /// `by_rule`.
 #[tactic(auto, unfolding(crate::specs::Asked::by_rule_asked))]
-pub(crate) fn by_rule<J: JsonTree>(object: &J) -> Option<Question<'_, J>>
+pub(crate) fn by_rule<J: JsonTree>(object: &J) -> Option<QuestionCommand<'_, J>>
     ensures { option_map (question_view J.content) result
         ≡ by_rule_asked (J.content object.now) }
 {
     let policy = text_at(object, "policy")?;
     let rule = null_or_text_at(object, "rule")?;
-    Some(Question::ByRule(policy, rule))
+    Some(QuestionCommand::ByRule(policy, rule))
 }
 
 /// `changes`.
-pub(crate) fn changes<J: JsonTree>(object: &J) -> Option<Question<'_, J>>
+pub(crate) fn changes<J: JsonTree>(object: &J) -> Option<QuestionCommand<'_, J>>
     ensures { option_map (question_view J.content) result
         ≡ option_map asked.changes_since (option_and_then number_in (get (codes "since") (J.content object.now))) }
 {
     let since = number_in(object.get("since")?)?;
-    Some(Question::Changes(since))
+    Some(QuestionCommand::Changes(since))
 }
 
 /// `format`.
-pub(crate) fn format<J: JsonTree>(object: &J) -> Option<Question<'_, J>>
+pub(crate) fn format<J: JsonTree>(object: &J) -> Option<QuestionCommand<'_, J>>
     ensures { option_map (question_view J.content) result
         ≡ option_map asked.format (option_and_then number_in (get (codes "version") (J.content object.now))) }
 {
     let version = number_in(object.get("version")?)?;
-    Some(Question::Format(version))
+    Some(QuestionCommand::Format(version))
 }
 
 /// `dump`. The absent version is the newest.
-pub(crate) fn dump<J: JsonTree>(object: &J) -> Option<Question<'_, J>>
+pub(crate) fn dump<J: JsonTree>(object: &J) -> Option<QuestionCommand<'_, J>>
     ensures { option_map (question_view J.content) result
         ≡ option_map asked.dump (number_at (codes "version") 2 (J.content object.now)) }
 {
     let version = number_at(object, "version", 2)?;
-    Some(Question::Dump(version))
+    Some(QuestionCommand::Dump(version))
 }
 
 /// `cells`.
-pub(crate) fn cells<J: JsonTree>(object: &J) -> Option<Question<'_, J>>
+pub(crate) fn cells<J: JsonTree>(object: &J) -> Option<QuestionCommand<'_, J>>
     ensures { option_map (question_view J.content) result
         ≡ option_map asked.cells (wanted_in (J.content object.now)) }
 {
     let wanted = wanted_in(object)?;
-    Some(Question::Cells(wanted))
+    Some(QuestionCommand::Cells(wanted))
 }
 
 /// `attributes`.
 #[tactic(auto, unfolding(crate::specs::Asked::attributes_asked))]
-pub(crate) fn attributes<J: JsonTree>(object: &J) -> Option<Question<'_, J>>
+pub(crate) fn attributes<J: JsonTree>(object: &J) -> Option<QuestionCommand<'_, J>>
     ensures { option_map (question_view J.content) result
         ≡ attributes_asked (J.content object.now) }
 {
     let category = category_named(text_at(object, "category")?);
     let entity = text_at(object, "entity")?;
-    Some(Question::Attributes(category, entity))
+    Some(QuestionCommand::Attributes(category, entity))
 }
 
 /// `documents`.
-pub(crate) fn documents<J: JsonTree>(object: &J) -> Option<Question<'_, J>>
+pub(crate) fn documents<J: JsonTree>(object: &J) -> Option<QuestionCommand<'_, J>>
     ensures { option_map (question_view J.content) result
         ≡ option_map asked.documents (optional_text (codes "id") (J.content object.now)) }
 {
     let id = optional_text(object, "id")?;
-    Some(Question::Documents(id))
+    Some(QuestionCommand::Documents(id))
 }
 
 /// `names`. All from the first on, where it isn't said.
 #[tactic(auto, unfolding(crate::specs::Asked::names_asked))]
-pub(crate) fn names<J: JsonTree>(object: &J) -> Option<Question<'_, J>>
+pub(crate) fn names<J: JsonTree>(object: &J) -> Option<QuestionCommand<'_, J>>
     ensures { option_map (question_view J.content) result ≡ names_asked (J.content object.now) }
 {
     let list = list_named(text_at(object, "list")?)?;
     let from = number_at(object, "from", 0)?;
     let count = number_at(object, "count", 65_536)?;
-    Some(Question::Names(list, from, count))
+    Some(QuestionCommand::Names(list, from, count))
 }

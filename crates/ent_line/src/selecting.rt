@@ -22,7 +22,7 @@ use crate::cell::write_cell;
 use crate::refusal::Refusal;
 use crate::reply::Reply;
 use crate::service::Service;
-use crate::wanted::{Wanted, is_word_of};
+use crate::wanted::{WantedCells, is_word_of};
 use ent_combine::{IndKind, Outcome};
 use ent_eval::{Answer, Evaluates};
 use ent_json::{JsonText, JsonTree};
@@ -110,7 +110,7 @@ impl Decisions {
 
 impl<'a> Selection<'a> {
     /// The cells that are wanted.
-    fn of<J: JsonTree>(wanted: Wanted<'a, J>) -> Selection<'a>
+    fn of<J: JsonTree>(wanted: WantedCells<'a, J>) -> Selection<'a>
         ensures { (c : Triple × Answer) → selects result c ≡ is_asked (wanted_view J.content wanted.entry) c }
     {
         Selection {
@@ -213,7 +213,7 @@ impl<E: Evaluates> Service<E> {
 
     /// `cells`.
     #[tactic(auto, unfolding(crate::specs::Commands::cells_told))]
-    pub(crate) fn cells<J: JsonTree>(&self, wanted: Wanted<'_, J>) -> Result<Reply, AllocError>
+    pub(crate) fn cells<J: JsonTree>(&self, wanted: WantedCells<'_, J>) -> Result<Reply, AllocError>
         ensures { Tells (λ w. cells_told w.state (wanted_view J.content wanted.entry))
             self.now result }
     {

@@ -18,7 +18,7 @@ ghost use Rattle.ent_line.specs.World.{beside_of, counted_of};
 use crate::answering::Answering;
 use crate::asking::command_in;
 use crate::cell::{one_cell_text, response_text, table_text};
-use crate::command::{Change, Command, Question};
+use crate::command::{Command, EditCommand, QuestionCommand};
 use crate::input::LINE_LIMIT;
 use crate::making::{NoEdit, read_edit};
 use crate::refusal::{Refusal, refused_edit};
@@ -108,7 +108,7 @@ impl<E: Evaluates> Service<E> {
 
     /// Makes the edit of a change.
     #[tactic(auto, using(crate::proofs::KeptLemmas::edit_remembers))]
-    fn change<J: JsonTree>(&mut self, change: Change<'_, J>) -> Result<Reply, AllocError>
+    fn change<J: JsonTree>(&mut self, change: EditCommand<'_, J>) -> Result<Reply, AllocError>
         ensures reply { Replies (λ w. made w (edit_of (change_view J.content change.entry)))
             self.old self.new result }
         ensures work { Works (λ s. edit_work s (edit_of (change_view J.content change.entry)))
@@ -171,7 +171,7 @@ impl<E: Evaluates> Service<E> {
     fn question<J: JsonTree>(
         &mut self,
         session: u8,
-        question: Question<'_, J>,
+        question: QuestionCommand<'_, J>,
     ) -> Result<Reply, AllocError>
         requires { session < 16 }
         ensures reply { Answers
@@ -181,29 +181,29 @@ impl<E: Evaluates> Service<E> {
         ensures kept { Keeps self.old self.new }
     {
         match question {
-            Question::Table => self.table(),
-            Question::Cell(person, action, resource) => self.cell(person, action, resource),
-            Question::Ask(request) => self.ask(request),
-            Question::Counts => self.counts(),
-            Question::Can(person) => self.can(person),
-            Question::Who(action, resource) => self.who(action, resource),
-            Question::ByRule(policy, rule) => self.by_rule(policy, rule),
-            Question::Notices => self.notices(session),
-            Question::Changes(since) => self.changes(since),
-            Question::Work => self.work(),
-            Question::Format(version) => self.format(version),
-            Question::Dump(version) => self.dump(version),
-            Question::State => self.state(),
-            Question::Cells(wanted) => self.cells(wanted),
-            Question::Attributes(category, entity) => self.attributes(category, entity),
-            Question::Documents(id) => self.documents(id),
-            Question::ExplainCell(whole, person, action, resource) => {
+            QuestionCommand::Table => self.table(),
+            QuestionCommand::Cell(person, action, resource) => self.cell(person, action, resource),
+            QuestionCommand::Ask(request) => self.ask(request),
+            QuestionCommand::Counts => self.counts(),
+            QuestionCommand::Can(person) => self.can(person),
+            QuestionCommand::Who(action, resource) => self.who(action, resource),
+            QuestionCommand::ByRule(policy, rule) => self.by_rule(policy, rule),
+            QuestionCommand::Notices => self.notices(session),
+            QuestionCommand::Changes(since) => self.changes(since),
+            QuestionCommand::Work => self.work(),
+            QuestionCommand::Format(version) => self.format(version),
+            QuestionCommand::Dump(version) => self.dump(version),
+            QuestionCommand::State => self.state(),
+            QuestionCommand::Cells(wanted) => self.cells(wanted),
+            QuestionCommand::Attributes(category, entity) => self.attributes(category, entity),
+            QuestionCommand::Documents(id) => self.documents(id),
+            QuestionCommand::ExplainCell(whole, person, action, resource) => {
                 self.explain_cell(whole, person, action, resource)
             }
-            Question::Explain(whole, request) => self.explain(whole, request),
-            Question::Faults => self.faults(),
-            Question::Limits => self.limits(),
-            Question::Names(list, from, count) => self.names(list, from, count),
+            QuestionCommand::Explain(whole, request) => self.explain(whole, request),
+            QuestionCommand::Faults => self.faults(),
+            QuestionCommand::Limits => self.limits(),
+            QuestionCommand::Names(list, from, count) => self.names(list, from, count),
         }
     }
 

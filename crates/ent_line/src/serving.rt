@@ -8,7 +8,7 @@ ghost use Rattle.ent_line.specs.World.{counted_of};
 
 use crate::answering::Answering;
 use crate::fault::ServeFault;
-use crate::input::{LINE_LIMIT, Piece, take_piece};
+use crate::input::{InputPiece, LINE_LIMIT, take_piece};
 use crate::law::replies_are_fresh;
 use crate::reply::send_reply;
 use crate::service::Service;
@@ -84,15 +84,15 @@ pub fn serve_within<S: Answering, R: BufRead, W: Write>(
     for look in 0..looks {
         let piece = take_piece(reader, &mut line)?;
         match piece {
-            Piece::End => {
+            InputPiece::End => {
                 if line.is_empty() {
                     return Ok(count);
                 }
                 answer_line(service, line.as_slice(), false, writer)?;
                 return Ok(count + 1);
             }
-            Piece::Part => {}
-            Piece::Line(is_followed) => {
+            InputPiece::Part => {}
+            InputPiece::Line(is_followed) => {
                 let goes_on = is_at_hand(is_followed, look, looks);
                 answer_line(service, line.as_slice(), goes_on, writer)?;
                 line.clear();

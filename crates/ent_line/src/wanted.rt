@@ -14,7 +14,7 @@ use ent_json::{JsonTree, text_at, text_or_absent};
 /// The person, the action, the resource and the words of the decisions of the cells that are asked for, where they are
 /// given. They stay where they are in the line's JSON.
 #[derive(Drop)]
-pub(crate) struct Wanted<'a, J> {
+pub(crate) struct WantedCells<'a, J> {
     pub(crate) person: Option<&'a str>,
     pub(crate) action: Option<&'a str>,
     pub(crate) resource: Option<&'a str>,
@@ -92,14 +92,14 @@ fn optional_decisions<J: JsonTree>(object: &J) -> Option<Option<&[J]>>
 
 /// Which cells an object asks for. `None` where its shape is wrong.
 #[tactic(auto, unfolding(crate::specs::Wanted::wanted_in))]
-pub(crate) fn wanted_in<J: JsonTree>(object: &J) -> Option<Wanted<'_, J>>
+pub(crate) fn wanted_in<J: JsonTree>(object: &J) -> Option<WantedCells<'_, J>>
     ensures { option_map (wanted_view J.content) result ≡ wanted_in (J.content object.now) }
 {
     let person = optional_text(object, "person")?;
     let action = optional_text(object, "action")?;
     let resource = optional_text(object, "resource")?;
     let decisions = optional_decisions(object)?;
-    Some(Wanted {
+    Some(WantedCells {
         person,
         action,
         resource,

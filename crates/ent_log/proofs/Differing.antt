@@ -17,13 +17,13 @@ use Rattle.std.specs.Ordering.{is_eq}
 use Rattle.std.specs.declared.cmp.Ordering.{Ordering}
 use Rattle.std.specs.declared.cmp.Ordering.TheVariants.{Less}
 use Rattle.ent_log.specs.Difference.{HasAnswers, IsDifference, Respects, change_at, changes_among, same_optional}
-use Rattle.ent_log.specs.declared.change.Change.{Change}
+use Rattle.ent_log.specs.declared.change.LoggedChange.{LoggedChange}
 
-abbrev change_of : {K A : Type 0} → K → Option A → Option A → Change K A
+abbrev change_of : {K A : Type 0} → K → Option A → Option A → LoggedChange K A
 change_of k before after = record { key = k; before = before; after = after }
 
 -- a key is that of a change among some
-abbrev has_change : {K A : Type 0} → (K → K → Ordering) → List (Change K A) → K → Bool
+abbrev has_change : {K A : Type 0} → (K → K → Ordering) → List (LoggedChange K A) → K → Bool
 has_change cmp changes k = list_any (λ c. is_eq (cmp k c.key)) changes
 
 -- ---- they ascend
@@ -83,7 +83,7 @@ is_changed eq (Some b) now = not (same_optional eq b now)
 pub any-change_at : {K A : Type 0} (test : K → Bool) (eq : A → A → Bool) (q : K) (b a : Option A)
     → list_any (λ c. test c.key) (change_at eq q b a) ≡ (not (same_optional eq b a) && test q)
 any-change_at test eq q b a =
-    elim (same_optional eq b a) as (λ s. list_any (λ (c : Change _ _). test c.key) (cond s [] (change_of q b a ∷ [])) ≡ (not s && test q)) [
+    elim (same_optional eq b a) as (λ s. list_any (λ (c : LoggedChange _ _). test c.key) (cond s [] (change_of q b a ∷ [])) ≡ (not s && test q)) [
       | true ↦ refl
       | false ↦ elim (test q) as (λ t. (t || false) ≡ (true && t)) [ true ↦ refl | false ↦ refl ]
     ]
@@ -94,7 +94,7 @@ pub any-changes : {K A : Type 0} {cmp : K → K → Ordering} (total : IsTotalOr
     → has_change cmp (changes_among eq now es) k ≡ is_changed eq (lookup (is_at (cmp k)) es) (now k)
 any-changes total eq now respects k [] sorted = refl
 any-changes {K} {A} {cmp} total eq now respects k (e ∷ es) sorted =
-    list_any-append (λ (c : Change K A). is_eq (cmp k c.key)) (change_at eq e.0 e.1 (now e.0)) (changes_among eq now es)
+    list_any-append (λ (c : LoggedChange K A). is_eq (cmp k c.key)) (change_at eq e.0 e.1 (now e.0)) (changes_among eq now es)
     ∙ ap (λ t. t || later) (any-change_at (λ q. is_eq (cmp k q)) eq e.0 e.1 (now e.0))
     ∙ by (is_eq (cmp k e.0)) refl (any-changes total eq now respects k es (sorted_tail cmp e.0 (keys_of es) sorted))
   where

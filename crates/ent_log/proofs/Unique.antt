@@ -9,10 +9,10 @@ use Rattle.std.specs.Ordering.{is_eq}
 use Rattle.std.specs.declared.cmp.Ordering.{Ordering}
 use Rattle.ent_log.specs.Difference.{HasAnswers, IsDifference, same_optional}
 use Rattle.ent_log.specs.Law.{DifferencesAreUnique}
-use Rattle.ent_log.specs.declared.change.Change.{Change}
+use Rattle.ent_log.specs.declared.change.LoggedChange.{LoggedChange}
 
 -- a difference is one of tables with the same answers
-pub difference-same : {K A : Type 0} (cmp : K → K → Ordering) (eq : A → A → Bool) (before after from to : K → Option A) (changes : List (Change K A))
+pub difference-same : {K A : Type 0} (cmp : K → K → Ordering) (eq : A → A → Bool) (before after from to : K → Option A) (changes : List (LoggedChange K A))
     → ((k : K) → before k ≡ from k) → ((k : K) → after k ≡ to k) → IsDifference cmp eq before after changes → IsDifference cmp eq from to changes
 difference-same cmp eq before after from to changes first last d = record {
   exact = λ k. d.exact k ∙ ap (λ a. not (same_optional eq a (after k))) (first k) ∙ ap (λ b. not (same_optional eq (from k) b)) (last k);
@@ -21,13 +21,13 @@ difference-same cmp eq before after from to changes first last d = record {
 }
 
 -- the keys of changes pass a test where the changes do
-list_any-keys : {K A : Type 0} (test : K → Bool) (changes : List (Change K A))
+list_any-keys : {K A : Type 0} (test : K → Bool) (changes : List (LoggedChange K A))
     → list_any test (map (λ c. c.key) changes) ≡ list_any (λ c. test c.key) changes
 list_any-keys test [] = refl
 list_any-keys test (c ∷ changes) = ap (λ b. test c.key || b) (list_any-keys test changes)
 
 -- changes that have the answers of two tables, by their keys alone
-by-keys : {K A : Type 0} (before after : K → Option A) (changes : List (Change K A)) → All (HasAnswers before after) changes
+by-keys : {K A : Type 0} (before after : K → Option A) (changes : List (LoggedChange K A)) → All (HasAnswers before after) changes
     → changes ≡ map (λ k. record { key = k; before = before k; after = after k }) (map (λ c. c.key) changes)
 by-keys before after [] answers = refl
 by-keys {K} {A} before after (c ∷ changes) answers =
@@ -38,8 +38,8 @@ by-keys {K} {A} before after (c ∷ changes) answers =
 
 pub differences-unique : {K A : Type 0} (cmp : K → K → Ordering) (total : IsTotalOrder cmp) (eq : A → A → Bool) → DifferencesAreUnique cmp eq
 differences-unique {K} {A} cmp total eq exact before after changes others d e =
-    let ks : List K = map (λ (c : Change K A). c.key) changes in
-    let ls : List K = map (λ (c : Change K A). c.key) others in
+    let ks : List K = map (λ (c : LoggedChange K A). c.key) changes in
+    let ls : List K = map (λ (c : LoggedChange K A). c.key) others in
     let s : BTreeSet K = record { keys = ks } in
     let t : BTreeSet K = record { keys = ls } in
     let alike : (k : K) → list_any (λ q. is_eq (cmp k q)) ks ≡ list_any (λ q. is_eq (cmp k q)) ls =

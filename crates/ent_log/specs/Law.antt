@@ -5,14 +5,14 @@ use Rattle.std.specs.declared.cmp.Ordering.{Ordering}
 use Rattle.ent_log.specs.Difference.{IsDifference}
 use Rattle.ent_log.specs.Maps.{map_at, map_difference}
 use Rattle.ent_log.specs.Tables.{KeepsFrom, KeepsTables, Undoes, table_at}
-use Rattle.ent_log.specs.declared.change.Change.{Change}
+use Rattle.ent_log.specs.declared.change.LoggedChange.{LoggedChange}
 use Rattle.ent_log.specs.declared.entry.OldAnswer.{OldAnswer}
 use Rattle.ent_log.specs.declared.log.Log.{Log}
 
 -- two tables have one difference alone, where the order tells all keys apart
 abbrev pub DifferencesAreUnique : {K A : Type 0} → (K → K → Ordering) → (A → A → Bool) → Type 0
 DifferencesAreUnique {K} {A} cmp eq =
-    IsAntisymmetric cmp → (before after : K → Option A) (changes others : List (Change K A))
+    IsAntisymmetric cmp → (before after : K → Option A) (changes others : List (LoggedChange K A))
     → IsDifference cmp eq before after changes → IsDifference cmp eq before after others → changes ≡ others
 
 -- what the map at a serial has at a key is what the table at that serial answers
@@ -36,5 +36,5 @@ MapsAreLeft {K} A cmp =
 -- the difference of two tables is that of their maps, where the order tells all keys apart
 abbrev pub DifferenceIsOfMaps : {K A : Type 0} → (K → K → Ordering) → (A → A → Bool) → Type 0
 DifferenceIsOfMaps {K} {A} cmp eq =
-    IsAntisymmetric cmp → (m n : FinMap cmp A) (changes : List (Change K A))
+    IsAntisymmetric cmp → (m n : FinMap cmp A) (changes : List (LoggedChange K A))
     → IsDifference cmp eq (get m) (get n) changes → changes ≡ map_difference eq m n

@@ -4,7 +4,7 @@ use Rattle.std.specs.FinMap.{FinMap, entries, from_entries, get, insert, keys, r
 use Rattle.std.specs.declared.cmp.Ordering.{Ordering}
 use Rattle.ent_log.specs.Difference.{changes_among}
 use Rattle.ent_log.specs.Entries.{answers_of, entries_since}
-use Rattle.ent_log.specs.declared.change.Change.{Change}
+use Rattle.ent_log.specs.declared.change.LoggedChange.{LoggedChange}
 use Rattle.ent_log.specs.declared.entry.OldAnswer.{OldAnswer}
 use Rattle.ent_log.specs.declared.log.Log.{Log}
 
@@ -27,5 +27,5 @@ abbrev pub keys_of_both : {K A : Type 0} {cmp : K → K → Ordering} → FinMap
 keys_of_both {cmp = cmp} m n = keys (from_entries {R = cmp} (entries m ++ entries n))
 
 -- of these the ones to which the maps have different answers, with both answers
-abbrev pub map_difference : {K A : Type 0} {cmp : K → K → Ordering} → (A → A → Bool) → FinMap cmp A → FinMap cmp A → List (Change K A)
+abbrev pub map_difference : {K A : Type 0} {cmp : K → K → Ordering} → (A → A → Bool) → FinMap cmp A → FinMap cmp A → List (LoggedChange K A)
 map_difference eq m n = changes_among eq (get n) (map (λ k. (k, get m k)) (keys_of_both m n))

@@ -10,7 +10,7 @@ mod log;
 mod present;
 mod since;
 
-pub use change::Change;
+pub use change::LoggedChange;
 pub use entry::{Logged, OldAnswer};
 pub use law::{difference_is_of_maps, differences_are_unique, maps_stay};
 pub use log::Log;

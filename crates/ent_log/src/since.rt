@@ -6,7 +6,7 @@ ghost use Rattle.ent_log.specs.Difference.{IsDifference, Respects, changes_among
 ghost use Rattle.ent_log.specs.Entries.{answers_of, entries_since, first_answer_or};
 ghost use Rattle.ent_log.specs.Tables.{table_at};
 
-use crate::change::Change;
+use crate::change::LoggedChange;
 use crate::key::SharedKey;
 use crate::log::Log;
 use crate::present::Present;
@@ -40,7 +40,7 @@ fn changes_of<K: Ord + Drop, A: PartialEq + Drop, P: Present<K, A>>(
     alloc: Global,
     present: &P,
     old_answers: BTreeMap<SharedKey<K>, Option<Shared<A>>>,
-) -> Result<Items<Change<K, A>>, AllocError>
+) -> Result<Items<LoggedChange<K, A>>, AllocError>
     requires { P.can_answer present.now }
     ensures changes { IfOk result (λ cs. cs ≡ changes_among A.eq (P.answers present.now) old_answers.entries) }
     ensures ordered { OnOk result (IsOrdered K.cmp old_answers) }
@@ -50,7 +50,7 @@ fn changes_of<K: Ord + Drop, A: PartialEq + Drop, P: Present<K, A>>(
         let after = present.answer(key.get());
         if !is_same(before.as_ref(), after) {
             let after = copy_of(after)?;
-            changes.push(Change {
+            changes.push(LoggedChange {
                 key: key.into_shared(),
                 before,
                 after,
@@ -99,7 +99,7 @@ impl<K: Ord + Drop, A: Eq + Drop> Log<K, A> {
         alloc: Global,
         present: &P,
         serial: u64,
-    ) -> Result<Items<Change<K, A>>, AllocError>
+    ) -> Result<Items<LoggedChange<K, A>>, AllocError>
         requires kept { self.now.from ≤ serial }
         requires reached { serial ≤ self.now.serial }
         requires ready { P.can_answer present.now }

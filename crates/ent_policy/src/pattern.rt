@@ -8,7 +8,7 @@ ghost use Rattle.ent_policy.specs.Patterns.{beside, is_more, is_pattern, matches
 ghost use Rattle.ent_policy.specs.Patterns.{pattern_of, pattern_text, AnyAcceptsOneNumber, MoreAcceptsWhatGoesOn};
 ghost use Rattle.ent_policy.specs.Patterns.{NumbersAcceptThemselves, PatternsReadBack};
 
-use crate::version::{Piece, Version, dotted, joined, number};
+use crate::version::{Version, VersionPiece, dotted, joined, number};
 use ent_values::Text;
 use std::alloc::{AllocError, Global};
 use std::cmp::Ordering;
@@ -57,7 +57,7 @@ pub struct VersionConstraints {
     pub latest: Option<VersionMatch>,
 }
 
-impl Piece for PatternPart {
+impl VersionPiece for PatternPart {
     ghost spelled = { part_of };
 
     ghost spelling = { part_text };

@@ -150,7 +150,7 @@ fn distinct_ids(
 
 /// A step of a walk along the uses of variables.
 #[derive(Drop)]
-enum Step<'a> {
+enum UseStep<'a> {
     Enter(&'a VariableDefinition),
     Leave(&'a VariableDefinition),
 }
@@ -160,12 +160,12 @@ enum Step<'a> {
 fn add_uses<'a>(
     expression: &Expression,
     by_id: &BTreeMap<&str, &'a VariableDefinition>,
-    steps: &mut Vec<Step<'a>>,
+    steps: &mut Vec<UseStep<'a>>,
 ) -> Result<(), AllocError> {
     match expression {
         Expression::Variable(id) => match by_id.get(id.as_str()) {
             Some(definition) => {
-                steps.push(Step::Enter(*definition))?;
+                steps.push(UseStep::Enter(*definition))?;
                 Ok(())
             }
             None => Ok(()),
@@ -180,7 +180,7 @@ fn add_uses<'a>(
 fn add_all_uses<'a>(
     expressions: &[Expression],
     by_id: &BTreeMap<&str, &'a VariableDefinition>,
-    steps: &mut Vec<Step<'a>>,
+    steps: &mut Vec<UseStep<'a>>,
 ) -> Result<(), AllocError> {
     for expression in expressions {
         add_uses(expression, by_id, steps)?;
@@ -193,10 +193,10 @@ fn enter<'a>(
     definition: &'a VariableDefinition,
     by_id: &BTreeMap<&str, &'a VariableDefinition>,
     entered: &mut BTreeSet<&'a str>,
-    steps: &mut Vec<Step<'a>>,
+    steps: &mut Vec<UseStep<'a>>,
 ) -> Result<(), AllocError> {
     if entered.insert(definition.id.as_str())? {
-        steps.push(Step::Leave(definition))?;
+        steps.push(UseStep::Leave(definition))?;
         add_uses(&definition.expression, by_id, steps)?;
     }
     Ok(())
@@ -206,7 +206,7 @@ fn enter<'a>(
 fn walk<'a>(
     alloc: Global,
     by_id: &BTreeMap<&str, &'a VariableDefinition>,
-    mut steps: Vec<Step<'a>>,
+    mut steps: Vec<UseStep<'a>>,
     count: usize,
 ) -> Result<BTreeMap<&'a str, usize>, AllocError> {
     let mut entered = BTreeSet::new(alloc);
@@ -215,10 +215,10 @@ fn walk<'a>(
     for _ in 0..u64::MAX {
         match steps.pop() {
             None => return Ok(ranks),
-            Some(Step::Enter(definition)) => {
+            Some(UseStep::Enter(definition)) => {
                 enter(definition, by_id, &mut entered, &mut steps)?;
             }
-            Some(Step::Leave(definition)) => {
+            Some(UseStep::Leave(definition)) => {
                 ranks.insert(definition.id.as_str(), rank)?;
                 rank = rank.saturating_sub(1);
             }
@@ -262,7 +262,7 @@ fn users_first(
     let mut steps = Vec::new(alloc);
     for definition in definitions {
         by_id.insert(definition.id.as_str(), definition)?;
-        steps.push(Step::Enter(definition))?;
+        steps.push(UseStep::Enter(definition))?;
     }
     let ranks = walk(alloc, &by_id, steps, definitions.len())?;
     let mut all = lent(alloc, definitions)?;

@@ -63,7 +63,7 @@ pub(crate) fn number(piece: &str) -> Option<u32>
 }
 
 /// What may stand between two dots: a number of a version, or a part of a pattern.
-pub(crate) trait Piece: Copy {
+pub(crate) trait VersionPiece: Copy {
     ghost use Rattle.std.specs.Prelude.{List, Option, ℕ};
 
     ghost spelled: { List ℕ → Option Self };
@@ -79,7 +79,7 @@ pub(crate) trait Piece: Copy {
         ensures { IfOk result (λ s. string_bytes s ≡ spelling self) };
 }
 
-impl Piece for u32 {
+impl VersionPiece for u32 {
     ghost spelled = { number_of };
 
     ghost spelling = { decimal };
@@ -95,7 +95,7 @@ impl Piece for u32 {
 
 /// What a text spells that has at most 8 pieces with dots between them, and how many there are. `blank` stands behind
 /// them.
-pub(crate) fn dotted<P: Piece>(text: &str, blank: P) -> Option<([P; 8], usize)>
+pub(crate) fn dotted<P: VersionPiece>(text: &str, blank: P) -> Option<([P; 8], usize)>
     ensures { MatchOption result (dotted_of P.spelled text.now ≡ None) (IsSpelledBy P.spelled text.now) }
 {
     let mut parts = [blank; 8];
@@ -121,7 +121,7 @@ fn push_piece(text: &mut String, place: usize, piece: &str) -> Result<(), AllocE
 }
 
 /// The text of these pieces, with dots between them.
-pub(crate) fn joined<P: Piece>(alloc: Global, parts: &[P]) -> Result<Text, AllocError>
+pub(crate) fn joined<P: VersionPiece>(alloc: Global, parts: &[P]) -> Result<Text, AllocError>
     ensures { IfOk result (λ t. t ≡ join_with_byte 46 (map P.spelling parts.now)) }
 {
     let mut text = String::new(alloc);

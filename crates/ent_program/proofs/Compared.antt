@@ -6,11 +6,11 @@ use Rattle.std.proofs.KnownBytes.{Appends-trans}
 use Rattle.std.proofs.lemmas.List.{drop_more, map_push, take_more}
 use Rattle.std.proofs.lemmas.List.Concat.{flat_map-append}
 use Rattle.script_files.specs.declared.session.Expected.{Expected}
-use Rattle.script_files.specs.declared.session.Step.{Step}
+use Rattle.script_files.specs.declared.session.SentLine.{SentLine}
 use Rattle.ent_program.specs.Comparing.{behind, differences, each, is_newline, places_told, told_at, told_of_one}
 
 -- a front of what is told of the replies was written, and what is left is told of these steps and replies
-abbrev pub IsTold : Option (List ℕ) → Option (List ℕ) → List ℕ → List Step → List ℕ → List Step → List ℕ → Type 0
+abbrev pub IsTold : Option (List ℕ) → Option (List ℕ) → List ℕ → List SentLine → List ℕ → List SentLine → List ℕ → Type 0
 IsTold before now name steps replies others rest =
     (told : List ℕ) × Appends before now told × (told ++ differences name others rest ≡ differences name steps replies)
 
@@ -19,7 +19,7 @@ both_both true b c = refl
 both_both false b c = refl
 
 -- one more step of those that are left, with the first reply of those that are left and those behind it
-module _ (all : List Step) (replies : List ℕ) (i : ℕ) (step : Step) (rest reply others : List ℕ)
+module _ (all : List SentLine) (replies : List ℕ) (i : ℕ) (step : SentLine) (rest reply others : List ℕ)
     (lt : i < length all) (is : step ≡ get_or all i step) (first : reply ≡ before_first is_newline rest) (more : others ≡ after_first is_newline rest) where
   here : drop i all ≡ step ∷ drop (i + 1) all
   here = drop_more all i step lt ∙ ap (λ s. s ∷ drop (i + 1) all) (sym is)

@@ -5,7 +5,7 @@ use Rattle.std.specs.List.{after_first, before_first}
 use Rattle.std.specs.Io.KnownBytes.{Appends}
 use Rattle.std.proofs.KnownBytes.{Appends-trans}
 use Rattle.serde_json.specs.Data.{Data}
-use Rattle.script_files.specs.declared.session.Step.{Step}
+use Rattle.script_files.specs.declared.session.SentLine.{SentLine}
 use Rattle.script_compare.specs.Gains.{has}
 use Rattle.script_compare.specs.declared.gains.Way.TheVariants.{Gained, Lost}
 use Rattle.script_compare.specs.Changes.{difference_of, is_nothing}
@@ -25,20 +25,20 @@ both_and true b c = refl
 both_and false b c = refl
 
 -- steps pass where those of two lists do, one behind the other
-pass_both : (first second : List Step) (replies : List ℕ) → pass (first ++ second) replies ≡ (pass first replies && pass second (behind first replies))
+pass_both : (first second : List SentLine) (replies : List ℕ) → pass (first ++ second) replies ≡ (pass first replies && pass second (behind first replies))
 pass_both [] second replies = refl
 pass_both (step ∷ first) second replies =
     ap (λ b. meets step.expected (before_first is_newline replies) && b) (pass_both first second (after_first is_newline replies))
     ∙ both_and (meets step.expected (before_first is_newline replies)) (pass first (after_first is_newline replies)) (pass second (behind first (after_first is_newline replies)))
 
 -- none is refused for want of memory where none is of either
-sure_both : (first second : List Step) (replies : List ℕ) → are_sure (first ++ second) replies ≡ (are_sure first replies && are_sure second (behind first replies))
+sure_both : (first second : List SentLine) (replies : List ℕ) → are_sure (first ++ second) replies ≡ (are_sure first replies && are_sure second (behind first replies))
 sure_both [] second replies = refl
 sure_both (step ∷ first) second replies =
     ap (λ b. is_sure step.expected (before_first is_newline replies) && b) (sure_both first second (after_first is_newline replies))
     ∙ both_and (is_sure step.expected (before_first is_newline replies)) (are_sure first (after_first is_newline replies)) (are_sure second (behind first (after_first is_newline replies)))
 
-behind_both : (first second : List Step) (replies : List ℕ) → behind (first ++ second) replies ≡ behind second (behind first replies)
+behind_both : (first second : List SentLine) (replies : List ℕ) → behind (first ++ second) replies ≡ behind second (behind first replies)
 behind_both [] second replies = refl
 behind_both (step ∷ first) second replies = behind_both first second (after_first is_newline replies)
 
@@ -50,11 +50,11 @@ second_of_both : (a b : Bool) → (a && b) ≡ true → b ≡ true
 second_of_both true b h = h
 second_of_both false b h = absurd cc
 
-nothing_of_one : (name : List ℕ) (step : Step) (reply : List ℕ) → meets step.expected reply ≡ true → told_of_one name step reply ≡ []
+nothing_of_one : (name : List ℕ) (step : SentLine) (reply : List ℕ) → meets step.expected reply ≡ true → told_of_one name step reply ≡ []
 nothing_of_one name step reply h = rw h refl
 
 -- of steps that pass nothing is told
-no_differences : (name : List ℕ) (steps : List Step) (replies : List ℕ) → pass steps replies ≡ true → differences name steps replies ≡ []
+no_differences : (name : List ℕ) (steps : List SentLine) (replies : List ℕ) → pass steps replies ≡ true → differences name steps replies ≡ []
 no_differences name [] replies h = refl
 no_differences name (step ∷ steps) replies h =
     ap (λ told. told ++ differences name steps (after_first is_newline replies))
@@ -63,7 +63,7 @@ no_differences name (step ∷ steps) replies h =
     (second_of_both (meets step.expected (before_first is_newline replies)) (pass steps (after_first is_newline replies)) h)
 
 -- the table behind lines of one file and then of another, all of which are accepted
-table_is_behind : (limits : Limits) (base steps : List Step) (replies rest end reply : List ℕ) (a b : Bool) → AreRepliesTo limits 2 (asked (base ++ steps) ++ table_line) replies
+table_is_behind : (limits : Limits) (base steps : List SentLine) (replies rest end reply : List ℕ) (a b : Bool) → AreRepliesTo limits 2 (asked (base ++ steps) ++ table_line) replies
     → a ≡ pass base replies → rest ≡ behind base replies → b ≡ pass steps rest → end ≡ behind steps rest → a ≡ true → b ≡ true
     → reply ≡ before_first is_newline end → is_wanting reply ≡ false → IsTableBehind limits (base ++ steps) reply
 table_is_behind limits base steps replies rest end reply a b run judged left also ended good so is sure = record {
@@ -75,7 +75,7 @@ table_is_behind limits base steps replies rest end reply a b run judged left als
 }
 
 -- nothing is written of lines that are accepted
-none_told : (name other : List ℕ) (base steps : List Step) (replies rest : List ℕ) (before mid after : Option (List ℕ)) (a b : Bool)
+none_told : (name other : List ℕ) (base steps : List SentLine) (replies rest : List ℕ) (before mid after : Option (List ℕ)) (a b : Bool)
     → Appends before mid (differences name base replies) → Appends mid after (differences other steps rest)
     → a ≡ pass base replies → b ≡ pass steps rest → a ≡ true → b ≡ true → Appends before after []
 none_told name other base steps replies rest before mid after a b told more judged also good so =
@@ -84,13 +84,13 @@ none_told name other base steps replies rest before mid after a b told more judg
     (subst (λ text. Appends mid after text) (no_differences other steps rest (sym also ∙ so)) more)
 
 -- the lines of one file and then of another are refused where those of either are
-refused_of_both : (base steps : List Step) (replies rest : List ℕ) (a b : Bool) → a ≡ pass base replies → rest ≡ behind base replies → b ≡ pass steps rest
+refused_of_both : (base steps : List SentLine) (replies rest : List ℕ) (a b : Bool) → a ≡ pass base replies → rest ≡ behind base replies → b ≡ pass steps rest
     → (a && b) ≡ false → pass (base ++ steps) replies ≡ false
 refused_of_both base steps replies rest a b judged left also bad =
     pass_both base steps replies ∙ ap (λ x. x && pass steps (behind base replies)) (sym judged) ∙ ap (λ r. a && pass steps r) (sym left) ∙ ap (λ x. a && x) (sym also) ∙ bad
 
 -- a service that was told lines of one file and then of another, and whose replies were compared
-module _ (limits : Limits) (name : List ℕ) (base : List Step) (lines : Lines) (replies rest : List ℕ) (before mid after : Option (List ℕ)) (a b : Bool)
+module _ (limits : Limits) (name : List ℕ) (base : List SentLine) (lines : Lines) (replies rest : List ℕ) (before mid after : Option (List ℕ)) (a b : Bool)
     (run : AreRepliesTo limits 2 (asked (base ++ lines.steps.now) ++ table_line) replies)
     (judged : a ≡ pass base replies) (left : rest ≡ behind base replies) (also : b ≡ pass lines.steps.now rest)
     (told : Appends before mid (differences name base replies)) (more : Appends mid after (differences lines.name.now lines.steps.now rest)) where
@@ -119,7 +119,7 @@ behind_nothing : (before mid after : Option (List ℕ)) (written : List ℕ) →
 behind_nothing before mid after written nothing more = Appends-trans before mid after [] written nothing more
 
 -- a line that is sent to the second service was refused
-pub refused_second : (limits : Limits) (state changes : Lines) (base : List Step) (first : List ℕ) (before mid after : Option (List ℕ))
+pub refused_second : (limits : Limits) (state changes : Lines) (base : List SentLine) (first : List ℕ) (before mid after : Option (List ℕ))
     → base ≡ base_of state.steps.now changes.steps.now → IsTableBehind limits state.steps.now first × Appends before mid []
     → Refuses limits state.name.now base changes mid after → TellsRefused limits state changes before after
 refused_second limits state changes base first before mid after is (table, nothing) told =
@@ -142,7 +142,7 @@ not_refused true gain loss is = cc
 not_refused false gain loss is = cc
 
 -- two tables were compared, and nothing but what differs was written
-module _ (limits : Limits) (form : Form) (state changes : Lines) (base : List Step) (first second : List ℕ) (told : Data) (begins one two after : Option (List ℕ))
+module _ (limits : Limits) (form : Form) (state changes : Lines) (base : List SentLine) (first second : List ℕ) (told : Data) (begins one two after : Option (List ℕ))
     (is : base ≡ base_of state.steps.now changes.steps.now) (table : IsTableBehind limits state.steps.now first × Appends begins one [])
     (other : IsTableBehind limits (base ++ changes.steps.now) second × Appends one two []) (differs : Some told ≡ difference_of first second) where
   tells : (text : List ℕ) (ended : Ending) → IsTextOf form told text → Appends two after text → ended ≡ ended_by told

@@ -11,12 +11,12 @@ use Rattle.script_files.specs.declared.fault.SessionFault.TheVariants as unread
 use Rattle.script_files.specs.declared.session.Session.{Session}
 use Rattle.ent_program.specs.Listing.{AreListed, ListsAll, ListsSpelled, heading_told}
 use Rattle.ent_program.specs.Testing.{chosen, is_chosen, misplaced_line}
-use Rattle.ent_program.specs.declared.testing.Plan.{Plan}
+use Rattle.ent_program.specs.declared.testing.TestPlan.{TestPlan}
 use Rattle.ent_program.specs.declared.tally.Tally.{Tally}
 use Rattle.ent_program.proofs.Tests.{chosen_more, one_if}
 
 -- one more of those that would run is told
-module _ (plan : Plan) (name : List ℕ) (all : List Session) (i : ℕ) (session : Session) (before now next : Option (List ℕ))
+module _ (plan : TestPlan) (name : List ℕ) (all : List Session) (i : ℕ) (session : Session) (before now next : Option (List ℕ))
     (lt : i < length all) (is : session ≡ get_or all i session) where
   pub listed_more : is_chosen plan.only session ≡ true → Appends now next (heading_told name session)
       → Appends before now (flat_map (heading_told name) (chosen plan (take i all))) → Appends before next (flat_map (heading_told name) (chosen plan (take (i + 1) all)))
@@ -34,19 +34,19 @@ module _ (plan : Plan) (name : List ℕ) (all : List Session) (i : ℕ) (session
       (sym (append-nil (chosen plan (take i all))) ∙ sym (chosen_more plan all i session false lt is runs)) told
 
 -- one more session is counted, if it would run
-pub counted_more : (plan : Plan) (all : List Session) (i n : ℕ) (session : Session) (b : Bool) → i < length all → session ≡ get_or all i session
+pub counted_more : (plan : TestPlan) (all : List Session) (i n : ℕ) (session : Session) (b : Bool) → i < length all → session ≡ get_or all i session
     → is_chosen plan.only session ≡ b → n ≡ length (chosen plan (take i all)) → n + length (one_if b session) ≡ length (chosen plan (take (i + 1) all))
 counted_more plan all i n session b lt is runs so =
     ap (λ m. m + length (one_if b session)) so ∙ sym (length-append (chosen plan (take i all)) (one_if b session)) ∙ ap length (sym (chosen_more plan all i session b lt is runs))
 
 -- sessions are told, of which there is one
-pub all_listed : (plan : Plan) (name : List ℕ) (sessions : List Session) (before after : Option (List ℕ)) (tally : Tally) → (sessions ≡ [] → ⊥)
+pub all_listed : (plan : TestPlan) (name : List ℕ) (sessions : List Session) (before after : Option (List ℕ)) (tally : Tally) → (sessions ≡ [] → ⊥)
     → AreListed plan name sessions before after tally → ListsAll plan name sessions before after tally
 all_listed plan name [] before after tally some told = absurd (some refl)
 all_listed plan name (session ∷ sessions) before after tally some told = told
 
 -- a line that can't stand where it stands is told
-pub misplaced_listed : (plan : Plan) (name bytes : List ℕ) (before after : Option (List ℕ)) (tally : Tally) (number : ℕ) (why : Mistake)
+pub misplaced_listed : (plan : TestPlan) (name bytes : List ℕ) (before after : Option (List ℕ)) (tally : Tally) (number : ℕ) (why : Mistake)
     → (unread.Form number why ≡ unread.Memory) ⊎ (sessions_of bytes ≡ Err (unread.Form number why))
     → Appends before after (misplaced_line name number why) → tally ≡ record { passed = 0; failed = 1 }
     → ListsSpelled plan name (sessions_of bytes) before after tally

@@ -10,7 +10,7 @@ use Rattle.std.proofs.lemmas.List.Concat.{flat_map-append}
 use Rattle.std.proofs.lemmas.List.Elements.{All-append, All-cons, All-get_or, All-head, All-nil, All-tail, filter_passes}
 use Rattle.std.proofs.lemmas.List.Sums.{position_or_len_is}
 use Rattle.script_files.specs.declared.session.Session.{Session}
-use Rattle.script_files.specs.declared.session.Step.{Step}
+use Rattle.script_files.specs.declared.session.SentLine.{SentLine}
 use Rattle.ent_line.specs.Asking.{QuestionsLeaveAll, most, only_asks, recounted}
 use Rattle.ent_line.specs.Headline.{IsHeadline}
 use Rattle.ent_line.specs.Lines.{IsOneLine, NoNewline, Splits, ended}
@@ -26,7 +26,7 @@ use Rattle.ent_program.specs.Starting.{start_of}
 use Rattle.ent_table.specs.declared.limits.Limits.{Limits}
 use Rattle.ent_program.specs.Limiting.{bounded}
 use Rattle.ent_program.specs.Testing.{AreRepliesTo, asked, few, is_chosen, sent_to}
-use Rattle.ent_program.specs.declared.testing.Plan.{Plan}
+use Rattle.ent_program.specs.declared.testing.TestPlan.{TestPlan}
 use Rattle.ent_program.specs.proofs_only.Sharing.{AreShared, are_asking, are_lines, front, is_asking, is_line, shared_steps, shares, sharing}
 
 -- ---- truth
@@ -53,44 +53,44 @@ no_newline (b ∷ bs) h = by (is_newline b) refl h (λ k. no_newline bs k)
     by true e h rest = let never : ⊥ = cc in absurd never
     by false e h rest = All-cons (λ c. c ≢ 10) b bs (eqb-false b 10 e) (rest h)
 
-clean : (step : Step) → is_line step ≡ true → NoNewline step.line
+clean : (step : SentLine) → is_line step ≡ true → NoNewline step.line
 clean step h = no_newline step.line (not_so (list_any is_newline step.line) h)
 
 -- what is sent in some steps
-abbrev lines_of : List Step → List (List ℕ)
+abbrev lines_of : List SentLine → List (List ℕ)
 lines_of steps = map (λ step. step.line) steps
 
-asked_lines : (steps : List Step) → asked steps ≡ flat_map ended (lines_of steps)
+asked_lines : (steps : List SentLine) → asked steps ≡ flat_map ended (lines_of steps)
 asked_lines [] = refl
 asked_lines (step ∷ steps) = ap (λ bytes. ended step.line ++ bytes) (asked_lines steps)
 
-all_clean : (steps : List Step) → are_lines steps ≡ true → All NoNewline (lines_of steps)
+all_clean : (steps : List SentLine) → are_lines steps ≡ true → All NoNewline (lines_of steps)
 all_clean [] h = All-nil NoNewline
 all_clean (step ∷ steps) h =
     All-cons NoNewline step.line (lines_of steps) (clean step (first_of (is_line step) (are_lines steps) h))
     (all_clean steps (second_of (is_line step) (are_lines steps) h))
 
-splits_asked : (steps : List Step) → are_lines steps ≡ true → Splits (asked steps) (lines_of steps) []
+splits_asked : (steps : List SentLine) → are_lines steps ≡ true → Splits (asked steps) (lines_of steps) []
 splits_asked steps h = record {
   whole = asked_lines steps ∙ sym (append-nil (flat_map ended (lines_of steps)));
   each = all_clean steps h;
   open_end = All-nil (λ c. c ≢ 10);
 }
 
-both_lines : (steps more : List Step) → are_lines steps ≡ true → are_lines more ≡ true → are_lines (steps ++ more) ≡ true
+both_lines : (steps more : List SentLine) → are_lines steps ≡ true → are_lines more ≡ true → are_lines (steps ++ more) ≡ true
 both_lines [] more h k = k
 both_lines (step ∷ steps) more h k =
     ap (λ b. b && are_lines (steps ++ more)) (first_of (is_line step) (are_lines steps) h)
     ∙ both_lines steps more (second_of (is_line step) (are_lines steps) h) k
 
 -- steps that only ask are lines
-asking_lines : (steps : List Step) → are_asking steps ≡ true → are_lines steps ≡ true
+asking_lines : (steps : List SentLine) → are_asking steps ≡ true → are_lines steps ≡ true
 asking_lines [] h = refl
 asking_lines (step ∷ steps) h =
     ap (λ b. b && are_lines steps) (first_of (is_line step) (only_asks step.line) (first_of (is_asking step) (are_asking steps) h))
     ∙ asking_lines steps (second_of (is_asking step) (are_asking steps) h)
 
-all_ask : (steps : List Step) → are_asking steps ≡ true → All (λ line. only_asks line ≡ true) (lines_of steps)
+all_ask : (steps : List SentLine) → are_asking steps ≡ true → All (λ line. only_asks line ≡ true) (lines_of steps)
 all_ask [] h = All-nil (λ line. only_asks line ≡ true)
 all_ask (step ∷ steps) h =
     All-cons (λ line. only_asks line ≡ true) step.line (lines_of steps)
@@ -114,7 +114,7 @@ after_reply reply others (line, h, is) =
     ap (λ r. after_first is_newline (r ++ others)) is ∙ ap (after_first is_newline) (append_assoc line (10 ∷ []) others) ∙ after_line line others h
 
 -- the replies to steps at the front of others
-behind_them : (steps : List Step) (answers : List Answer) (others : List ℕ) → length answers ≡ length steps
+behind_them : (steps : List SentLine) (answers : List Answer) (others : List ℕ) → length answers ≡ length steps
     → All (λ a. IsOneLine (line_of a)) answers → behind steps (flat_map line_of answers ++ others) ≡ others
 behind_them [] [] others e h = refl
 behind_them [] (a ∷ answers) others e h = absurd (omega (arith, e))
@@ -125,7 +125,7 @@ behind_them (step ∷ steps) (a ∷ answers) others e h =
     ∙ after_reply (line_of a) (flat_map line_of answers ++ others) (All-head (λ x. IsOneLine (line_of x)) a answers h))
     ∙ behind_them steps answers others (omega (arith, e)) (All-tail (λ x. IsOneLine (line_of x)) a answers h)
 
-front_of_them : (steps : List Step) (answers : List Answer) (others : List ℕ) → length answers ≡ length steps
+front_of_them : (steps : List SentLine) (answers : List Answer) (others : List ℕ) → length answers ≡ length steps
     → All (λ a. IsOneLine (line_of a)) answers → front steps (flat_map line_of answers ++ others) ≡ flat_map line_of answers
 front_of_them steps answers others e h =
     let own = flat_map line_of answers in
@@ -203,7 +203,7 @@ abbrev new_of : Limits → ℕ → Counted
 new_of limits n = at_start (start_of (bounded limits) n n)
 
 -- a run of a new service over steps, with what it replies
-record Told (limits : Limits) (n : ℕ) (steps : List Step) (bytes : List ℕ) : Type 0 where
+record Told (limits : Limits) (n : ℕ) (steps : List SentLine) (bytes : List ℕ) : Type 0 where
   pub answers : List Answer
   pub end : Counted
   pub run : Run Counts (new_of limits n) (lines_of steps) answers end
@@ -214,7 +214,7 @@ all_read : (sent text : List ℕ) (left : Option (List ℕ)) → Consumes (Some 
 all_read sent text None read end = absurd read
 all_read sent text (Some left) read end = sym (read ∙ ap (λ l. text ++ l) end ∙ append-nil text)
 
-told_of : (limits : Limits) (modules : ℕ) (steps : List Step) (bytes : List ℕ) → are_lines steps ≡ true → AreRepliesTo limits modules (asked steps) bytes
+told_of : (limits : Limits) (modules : ℕ) (steps : List SentLine) (bytes : List ℕ) → are_lines steps ≡ true → AreRepliesTo limits modules (asked steps) bytes
     → Told limits (few modules) steps bytes
 unfolding AreRepliesTo
 told_of limits modules steps bytes h (end, left, number, headline) =
@@ -229,7 +229,7 @@ told_of limits modules steps bytes h (end, left, number, headline) =
       headline = headline.replies;
     }
 
-replies_of : (limits : Limits) (modules n : ℕ) (steps : List Step) (bytes : List ℕ) → are_lines steps ≡ true → few modules ≡ n → Told limits n steps bytes
+replies_of : (limits : Limits) (modules n : ℕ) (steps : List SentLine) (bytes : List ℕ) → are_lines steps ≡ true → few modules ≡ n → Told limits n steps bytes
     → AreRepliesTo limits modules (asked steps) bytes
 unfolding AreRepliesTo
 replies_of limits modules n steps bytes h is told = (
@@ -258,7 +258,7 @@ replies_of limits modules n steps bytes h is told = (
 -- ---- tests that share a service
 
 -- the tests that share one, with what makes them do so
-module _ (plan : Plan) (session : Session) (h : shares plan session ≡ true) where
+module _ (plan : TestPlan) (session : Session) (h : shares plan session ≡ true) where
   of_state : are_lines plan.state.now ≡ true
   of_state = first_of (are_lines plan.state.now) _ h
 
@@ -280,7 +280,7 @@ recounts : (base u : Counted) → u.world ≡ base.world → ((n : ℕ) → u.be
 recounts base u world known =
     λ i. record { world = world i; beside = record { count = base.beside.count; known = λ n. known n i } }
 
-module _ (plan : Plan) (headline : IsHeadline) (law : QuestionsLeaveAll) (state : are_lines plan.state.now ≡ true)
+module _ (plan : TestPlan) (headline : IsHeadline) (law : QuestionsLeaveAll) (state : are_lines plan.state.now ≡ true)
     (base : Counted) (begun : List Answer) (run : Run Counts (new_of plan.limits 2) (lines_of plan.state.now) begun base) where
   base_within : base.beside.count ≤ most
   base_within = run_within (new_of plan.limits 2) base (lines_of plan.state.now) begun run (omega arith)
@@ -332,7 +332,7 @@ module _ (plan : Plan) (headline : IsHeadline) (law : QuestionsLeaveAll) (state 
       )
 
 -- the steps of tests that share a service are lines
-shared_lines : (plan : Plan) (sessions : List Session) → All (λ s. shares plan s ≡ true) sessions
+shared_lines : (plan : TestPlan) (sessions : List Session) → All (λ s. shares plan s ≡ true) sessions
     → are_lines (flat_map (λ s. s.steps) sessions) ≡ true
 shared_lines plan [] h = refl
 shared_lines plan (session ∷ sessions) h =
@@ -341,7 +341,7 @@ shared_lines plan (session ∷ sessions) h =
     (shared_lines plan sessions (All-tail (λ s. shares plan s ≡ true) session sessions h))
 
 -- what one new service replies to the state and to all of them
-from_one : (plan : Plan) (sessions : List Session) (bytes : List ℕ) → IsHeadline → QuestionsLeaveAll → are_lines plan.state.now ≡ true
+from_one : (plan : TestPlan) (sessions : List Session) (bytes : List ℕ) → IsHeadline → QuestionsLeaveAll → are_lines plan.state.now ≡ true
     → All (λ s. shares plan s ≡ true) sessions → AreRepliesTo plan.limits 2 (asked (plan.state.now ++ flat_map (λ s. s.steps) sessions)) bytes
     → AreShared plan (front plan.state.now bytes) sessions (behind plan.state.now bytes)
 from_one plan sessions bytes headline law state h replied =
@@ -361,11 +361,11 @@ from_one plan sessions bytes headline law state h replied =
     ) all)
 
 -- where the state isn't lines, no test shares a service
-none_shares : (plan : Plan) (sessions : List Session) → are_lines plan.state.now ≡ false → sharing plan sessions ≡ []
+none_shares : (plan : TestPlan) (sessions : List Session) → are_lines plan.state.now ≡ false → sharing plan sessions ≡ []
 none_shares plan [] h = refl
 none_shares plan (session ∷ sessions) h = rw h (none_shares plan sessions h)
 
-pub shared : (plan : Plan) (sessions : List Session) (bytes : List ℕ) → IsHeadline → QuestionsLeaveAll
+pub shared : (plan : TestPlan) (sessions : List Session) (bytes : List ℕ) → IsHeadline → QuestionsLeaveAll
     → AreRepliesTo plan.limits 2 (asked plan.state.now ++ asked (shared_steps plan sessions)) bytes
     → AreShared plan (front plan.state.now bytes) (sharing plan sessions) (behind plan.state.now bytes)
 shared plan sessions bytes headline law replied = by (are_lines plan.state.now) refl
@@ -377,7 +377,7 @@ shared plan sessions bytes headline law replied = by (are_lines plan.state.now) 
     by false e = subst (λ ss. AreShared plan (front plan.state.now bytes) ss (behind plan.state.now bytes)) (sym (none_shares plan sessions e)) tt
 
 -- no test shares a service
-pub shared_none : (plan : Plan) (sessions : List Session) (first bytes : List ℕ) → sharing plan sessions ≡ []
+pub shared_none : (plan : TestPlan) (sessions : List Session) (first bytes : List ℕ) → sharing plan sessions ≡ []
     → AreShared plan first (sharing plan sessions) bytes
 shared_none plan sessions first bytes is = subst (λ ss. AreShared plan first ss bytes) (sym is) tt
 
@@ -387,7 +387,7 @@ abbrev one_if : Bool → Session → List Session → List Session
 one_if true session sessions = session ∷ sessions
 one_if false session sessions = sessions
 
-module _ (plan : Plan) (all : List Session) (i : ℕ) (session : Session) (lt : i < length all) (is : session ≡ get_or all i session) where
+module _ (plan : TestPlan) (all : List Session) (i : ℕ) (session : Session) (lt : i < length all) (is : session ≡ get_or all i session) where
   left : (b : Bool) → shares plan session ≡ b → sharing plan (drop i all) ≡ one_if b session (sharing plan (drop (i + 1) all))
   left b e = ap (sharing plan) (drop_more all i session lt ∙ ap (λ s. s ∷ drop (i + 1) all) (sym is)) ∙ by b e
     where
@@ -408,7 +408,7 @@ module _ (plan : Plan) (all : List Session) (i : ℕ) (session : Session) (lt : 
   others_at_hand first rest false e shared = subst (λ ss. AreShared plan first ss rest) (left false e) shared
 
 -- a test that doesn't run shares nothing
-pub not_chosen : (plan : Plan) (session : Session) → is_chosen plan.only session ≡ false → shares plan session ≡ false
+pub not_chosen : (plan : TestPlan) (session : Session) → is_chosen plan.only session ≡ false → shares plan session ≡ false
 not_chosen plan session e = by (are_lines plan.state.now)
   where
     by : (b : Bool) → (b && (is_chosen plan.only session && (few session.modules == 2 && are_asking session.steps))) ≡ false

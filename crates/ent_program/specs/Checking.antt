@@ -15,7 +15,7 @@ use Rattle.ent_line.specs.Step.{data_of}
 use Rattle.ent_line.specs.declared.fault.ServeFault.{ServeFault}
 use Rattle.ent_line.specs.declared.fault.ServeFault.TheVariants as fault
 use Rattle.ent_program.specs.declared.checking.FileFault.TheVariants.{TooLong, NotJson, Document}
-use Rattle.ent_program.specs.declared.checking.Judged.{Judged}
+use Rattle.ent_program.specs.declared.checking.CheckResult.{CheckResult}
 use Rattle.ent_program.specs.declared.checking.Verdict.{Verdict}
 use Rattle.ent_program.specs.declared.checking.Verdict.TheVariants.{Passed, Refused}
 
@@ -79,12 +79,12 @@ Checks unread before after (Ok passed) = (v : Verdict) × Judges unread before a
 Checks unread before after (Err e) = Judges unread before after (Err e)
 
 -- the verdict of what a check comes to
-abbrev pub verdict_in : Result Judged ServeFault → Result Verdict ServeFault
+abbrev pub verdict_in : Result CheckResult ServeFault → Result Verdict ServeFault
 verdict_in (Ok j) = Ok j.verdict
 verdict_in (Err e) = Err e
 
 -- whether nothing is wrong with a file: its document may be stored, and nothing is told of it
-abbrev pub is_fine : Judged → Bool
+abbrev pub is_fine : CheckResult → Bool
 is_fine j = is_passed j.verdict && not (is_some j.told)
 
 -- what is told of a verdict on JSON, or on what is none, beside its line: of the first fault of a document its place, of what isn't JSON one line, else nothing

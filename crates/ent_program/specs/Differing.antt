@@ -10,7 +10,7 @@ use Rattle.script_compare.specs.Changes.{difference_of, is_nothing}
 use Rattle.script_compare.specs.Gains.{has, markdown_text}
 use Rattle.script_compare.specs.Shown.{shown_text}
 use Rattle.script_compare.specs.declared.gains.Way.TheVariants.{Gained, Lost}
-use Rattle.script_files.specs.declared.session.Step.{Step}
+use Rattle.script_files.specs.declared.session.SentLine.{SentLine}
 use Rattle.ent_line.specs.declared.fault.ServeFault.{ServeFault}
 use Rattle.ent_line.specs.declared.fault.ServeFault.TheVariants as fault
 use Rattle.ent_program.specs.Comparing.{are_sure, behind, differences, is_newline, is_wanting, pass}
@@ -27,7 +27,7 @@ abbrev pub table_line : List ℕ
 table_line = codes "{\"do\":\"table\"}\n"
 
 -- a reply is what a new service within those limits, of two modules of each sort, tells of its table behind these lines, each of which it accepted; it doesn't want memory
-pub record IsTableBehind (limits : Limits) (steps : List Step) (reply : List ℕ) : Type 0 where
+pub record IsTableBehind (limits : Limits) (steps : List SentLine) (reply : List ℕ) : Type 0 where
   pub replies : List ℕ
   pub run : AreRepliesTo limits 2 (asked steps ++ table_line) replies
   pub accepted : pass steps replies ≡ true
@@ -39,16 +39,16 @@ abbrev pub says_format : List ℕ → Bool
 says_format line = bytes_eq (unwrap_or (option_and_then (text_at (codes "do")) (data_of line)) []) (codes "format")
 
 -- lines are those of a state of their own: the first says their format
-abbrev pub is_state : List Step → Bool
+abbrev pub is_state : List SentLine → Bool
 is_state [] = false
 is_state (step ∷ steps) = says_format step.line
 
 -- the lines behind which changes are sent: none where these are those of a state of their own, else those of the first state
-abbrev pub base_of : List Step → List Step → List Step
+abbrev pub base_of : List SentLine → List SentLine → List SentLine
 base_of state changes = if is_state changes then [] else state
 
 -- of what a new service within those limits replied to these lines of one file and then of another, that which refuses one is written; none is refused for want of memory
-pub record Refuses (limits : Limits) (name : List ℕ) (base : List Step) (lines : Lines) (before after : Option (List ℕ)) : Type 0 where
+pub record Refuses (limits : Limits) (name : List ℕ) (base : List SentLine) (lines : Lines) (before after : Option (List ℕ)) : Type 0 where
   pub replies : List ℕ
   pub run : AreRepliesTo limits 2 (asked (base ++ lines.steps.now) ++ table_line) replies
   pub refused : pass (base ++ lines.steps.now) replies ≡ false
@@ -56,7 +56,7 @@ pub record Refuses (limits : Limits) (name : List ℕ) (base : List Step) (lines
   pub written : Appends before after (differences name base replies ++ differences lines.name.now lines.steps.now (behind base replies))
 
 -- the reply of a new service that tells its table behind these lines of one file and then of another; or none, where it refused one
-abbrev pub GivesTable : Limits → List ℕ → List Step → Lines → Option (List ℕ) → Option (List ℕ) → Option (List ℕ) → Type 0
+abbrev pub GivesTable : Limits → List ℕ → List SentLine → Lines → Option (List ℕ) → Option (List ℕ) → Option (List ℕ) → Type 0
 GivesTable limits name base lines before after (Some reply) = IsTableBehind limits (base ++ lines.steps.now) reply × Appends before after []
 GivesTable limits name base lines before after None = Refuses limits name base lines before after
 

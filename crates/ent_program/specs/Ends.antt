@@ -12,7 +12,7 @@ use Rattle.ent_program.specs.Sources.{path_of}
 use Rattle.ent_program.specs.declared.asked_states.AskedStates.{AskedStates}
 use Rattle.ent_program.specs.declared.differing.Ending.{Ending}
 use Rattle.ent_program.specs.declared.differing.Failing.{Failing}
-use Rattle.ent_program.specs.declared.found.Found.{Found}
+use Rattle.ent_program.specs.declared.found.FaultCount.{FaultCount}
 use Rattle.ent_program.specs.declared.limiting.WrongLimit.{WrongLimit}
 use Rattle.ent_program.specs.declared.options.Task.{Task}
 use Rattle.ent_program.specs.declared.options.Task.TheVariants as task
@@ -62,7 +62,7 @@ pub data End : Type 0 where
   -- the lines of a dump were written
   written : Result ⊤ LinesFault → End
   -- documents were checked, with warnings that count or not
-  checked : Bool → Result Found Unmet → End
+  checked : Bool → Result FaultCount Unmet → End
   -- tables were compared, or one was told with the rules that it lacks; where it is said which differences fail, by these
   compared : Option Failing → Result Ending Unmet → End
   -- tests ran, or were listed

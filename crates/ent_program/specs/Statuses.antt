@@ -10,7 +10,7 @@ use Rattle.ent_program.specs.declared.differing.Ending.{Ending}
 use Rattle.ent_program.specs.declared.differing.Ending.TheVariants as compared
 use Rattle.ent_program.specs.declared.differing.Failing.{Failing}
 use Rattle.ent_program.specs.declared.differing.Failing.TheVariants.{Gain, Loss, Any}
-use Rattle.ent_program.specs.declared.found.Found.{Found}
+use Rattle.ent_program.specs.declared.found.FaultCount.{FaultCount}
 use Rattle.ent_program.specs.declared.status.Unmet.{Unmet}
 use Rattle.ent_program.specs.declared.status.Unmet.TheVariants as unmet
 use Rattle.ent_program.specs.declared.tally.Tally.{Tally}
@@ -34,11 +34,11 @@ serve_status (Ok lines) = 0
 serve_status (Err e) = fault_status e
 
 -- what was found gives 0 where it is no fault, and no warning where these count, and else 1
-abbrev pub found_status : Bool → Found → ℕ
+abbrev pub found_status : Bool → FaultCount → ℕ
 found_status is_strict found = if found.faults == 0 && (found.warnings == 0 || not is_strict) then 0 else 1
 
 -- a check gives the status of what was found, where warnings count or not
-abbrev pub checked_status : Bool → Result Found Unmet → ℕ
+abbrev pub checked_status : Bool → Result FaultCount Unmet → ℕ
 checked_status is_strict (Ok found) = found_status is_strict found
 checked_status is_strict (Err u) = unmet_status u
 

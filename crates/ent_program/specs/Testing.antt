@@ -10,9 +10,9 @@ use Rattle.script_files.specs.declared.fault.Mistake.TheVariants as mistake
 use Rattle.script_files.specs.declared.fault.SessionFault.{SessionFault}
 use Rattle.script_files.specs.declared.fault.SessionFault.TheVariants as unread
 use Rattle.script_files.specs.declared.session.Session.{Session}
-use Rattle.script_files.specs.declared.session.Step.{Step}
+use Rattle.script_files.specs.declared.session.SentLine.{SentLine}
 use Rattle.script_junit.specs.Junit.{errors, failed}
-use Rattle.script_junit.specs.declared.result.Case.{Case}
+use Rattle.script_junit.specs.declared.result.TestCase.{TestCase}
 use Rattle.script_junit.specs.declared.result.Suite.{Suite}
 use Rattle.ent_line.specs.Headline.{Headline}
 use Rattle.ent_line.specs.Lines.{ended}
@@ -23,11 +23,11 @@ use Rattle.ent_program.specs.Comparing.{are_sure, behind, differences, pass, tol
 use Rattle.ent_program.specs.Starting.{start_of}
 use Rattle.ent_table.specs.declared.limits.Limits.{Limits}
 use Rattle.ent_program.specs.Limiting.{bounded}
-use Rattle.ent_program.specs.declared.testing.Plan.{Plan}
+use Rattle.ent_program.specs.declared.testing.TestPlan.{TestPlan}
 use Rattle.ent_program.specs.declared.tally.Tally.{Tally}
 
 -- what is sent in these steps: the line of each, with a newline
-abbrev pub asked : List Step → List ℕ
+abbrev pub asked : List SentLine → List ℕ
 asked steps = flat_map (λ step. ended step.line) steps
 
 -- that number of modules, or two where it isn't from 1 to 4
@@ -46,15 +46,15 @@ AreRepliesTo limits modules sent replies = (end : Counted) × (left : Option (Li
 }) (Ok number)
 
 -- steps say of a reply what it is to be
-abbrev pub has_expected : List Step → Bool
+abbrev pub has_expected : List SentLine → Bool
 has_expected steps = list_any (λ step. is_some step.expected) steps
 
 -- a session passes with these replies: one is expected, and each is as it is to be
-abbrev pub passes : List Step → List ℕ → Bool
+abbrev pub passes : List SentLine → List ℕ → Bool
 passes steps replies = has_expected steps && pass steps replies
 
 -- what is sent to the service of a session: the lines of a state, and then its own
-abbrev pub sent_to : List Step → Session → List ℕ
+abbrev pub sent_to : List SentLine → Session → List ℕ
 sent_to state session = asked (state ++ session.steps)
 
 -- a session that was run, with the replies to the lines of the state and to its own
@@ -62,19 +62,19 @@ abbrev pub Ran : Type 0
 Ran = Session × List ℕ
 
 -- the lines of the state were accepted
-abbrev pub accepted : Plan → Ran → Bool
+abbrev pub accepted : TestPlan → Ran → Bool
 accepted plan run = pass plan.state.now run.1
 
 -- the replies to its own lines
-abbrev pub own_replies : Plan → Ran → List ℕ
+abbrev pub own_replies : TestPlan → Ran → List ℕ
 own_replies plan run = behind plan.state.now run.1
 
 -- it passed: the lines of the state were accepted, and it passes with the replies to its own
-abbrev pub passed : Plan → Ran → Bool
+abbrev pub passed : TestPlan → Ran → Bool
 passed plan run = accepted plan run && passes run.0.steps (own_replies plan run)
 
 -- it isn't for want of memory that it didn't
-abbrev pub sure : Plan → Ran → Bool
+abbrev pub sure : TestPlan → Ran → Bool
 sure plan run = are_sure plan.state.now run.1 && (not (accepted plan run) || are_sure run.0.steps (own_replies plan run))
 
 -- what is told where no reply is expected
@@ -86,11 +86,11 @@ abbrev pub told_of_test : List ℕ → Session → List ℕ → List ℕ
 told_of_test name session replies = unexpecting name session ++ differences name session.steps replies
 
 -- what is told of replies: of those to the state if they aren't all accepted, else of the session's own
-abbrev pub told_of_replies : List ℕ → Plan → Ran → List ℕ
+abbrev pub told_of_replies : List ℕ → TestPlan → Ran → List ℕ
 told_of_replies name plan run = differences plan.state_name.now plan.state.now run.1 ++ (if accepted plan run then told_of_test name run.0 (own_replies plan run) else [])
 
 -- what is told of a run: of the replies, and what the session is called if it didn't pass
-abbrev pub told_of : List ℕ → Plan → Ran → List ℕ
+abbrev pub told_of : List ℕ → TestPlan → Ran → List ℕ
 told_of name plan run = told_of_replies name plan run ++ (if passed plan run then [] else told_at name run.0.number (codes ": failed ") run.0.name)
 
 -- a session runs: all do, or those of a name
@@ -99,31 +99,31 @@ is_chosen None session = true
 is_chosen (Some name) session = bytes_eq session.name name.now
 
 -- the sessions that run
-abbrev pub chosen : Plan → List Session → List Session
+abbrev pub chosen : TestPlan → List Session → List Session
 chosen plan sessions = filter (is_chosen plan.only) sessions
 
 -- what became of a session that was run
-abbrev pub case_of : List ℕ → Plan → Ran → Case
+abbrev pub case_of : List ℕ → TestPlan → Ran → TestCase
 case_of name plan run = record { name = run.0.name; number = run.0.number; passed = passed plan run; told = told_of name plan run }
 
 -- a session was run over a new service behind the lines of the state, memory wasn't wanting, and this became of it
-abbrev pub IsRun : Plan → List ℕ → Session → Case → Type 0
+abbrev pub IsRun : TestPlan → List ℕ → Session → TestCase → Type 0
 IsRun plan name session test = (replies : List ℕ) × AreRepliesTo plan.limits session.modules (sent_to plan.state.now session) replies
     × (sure plan (session, replies) ≡ true) × (test ≡ case_of name plan (session, replies))
 
 -- these sessions were run one after the other, each over a new service and behind the lines of the state; of none that didn't pass memory was
 -- wanting, and this became of them
-abbrev pub AreTested : Plan → List ℕ → List Session → List Case → Type 0
+abbrev pub AreTested : TestPlan → List ℕ → List Session → List TestCase → Type 0
 AreTested plan name sessions cases = (runs : List Ran) × (map (λ run. run.0) runs ≡ sessions)
     × All (λ run. AreRepliesTo plan.limits run.0.modules (sent_to plan.state.now run.0) run.1 × (sure plan run ≡ true)) runs
     × (cases ≡ map (case_of name plan) runs)
 
 -- what is told of tests, one after the other
-abbrev pub told_of_cases : List Case → List ℕ
+abbrev pub told_of_cases : List TestCase → List ℕ
 told_of_cases cases = flat_map (λ test. test.told) cases
 
 -- what a test of those of the sessions that are chosen gives, and that it writes what is told of them; it reads nothing, so no reader fails
-abbrev pub TestsEach : Plan → List ℕ → List Session → Option (List ℕ) → Option (List ℕ) → Result (List Case) ServeFault → Type 0
+abbrev pub TestsEach : TestPlan → List ℕ → List Session → Option (List ℕ) → Option (List ℕ) → Result (List TestCase) ServeFault → Type 0
 TestsEach plan name sessions before after (Ok cases) = AreTested plan name (chosen plan sessions) cases × Appends before after (told_of_cases cases)
 TestsEach plan name sessions before after (Err e) = e ≢ fault.Read
 
@@ -144,23 +144,23 @@ abbrev pub Untested : Option (List ℕ) → Option (List ℕ) → Suite → List
 Untested before after suite line = (suite.cases ≡ []) × (suite.error ≡ Some line) × Appends before after line
 
 -- what a test of sessions gives and writes: of none, that there are none
-abbrev pub TestsAll : Plan → List ℕ → List Session → Option (List ℕ) → Option (List ℕ) → Suite → Type 0
+abbrev pub TestsAll : TestPlan → List ℕ → List Session → Option (List ℕ) → Option (List ℕ) → Suite → Type 0
 TestsAll plan name [] before after suite = Untested before after suite (told_at name 1 (codes ": ") (codes "no test begins here"))
 TestsAll plan name (session ∷ sessions) before after suite = (suite.error ≡ None) × TestsEach plan name (session ∷ sessions) before after (Ok suite.cases)
 
 -- what a test of what a file spells gives and writes: its sessions are tested, if it spells any
-abbrev pub TestsSpelled : Plan → List ℕ → Result (List Session) SessionFault → Option (List ℕ) → Option (List ℕ) → Suite → Type 0
+abbrev pub TestsSpelled : TestPlan → List ℕ → Result (List Session) SessionFault → Option (List ℕ) → Option (List ℕ) → Suite → Type 0
 TestsSpelled plan name (Ok sessions) before after suite = TestsAll plan name sessions before after suite
 TestsSpelled plan name (Err (unread.Form number why)) before after suite = Untested before after suite (misplaced_line name number why)
 TestsSpelled plan name (Err unread.Memory) before after suite = ⊥
 
 -- what a test of the bytes of a file gives and writes
-abbrev pub TestsBytes : Plan → List ℕ → List ℕ → Option (List ℕ) → Option (List ℕ) → Result Suite ServeFault → Type 0
+abbrev pub TestsBytes : TestPlan → List ℕ → List ℕ → Option (List ℕ) → Option (List ℕ) → Result Suite ServeFault → Type 0
 TestsBytes plan name bytes before after (Ok suite) = (suite.name.now ≡ name) × TestsSpelled plan name (sessions_of bytes) before after suite
 TestsBytes plan name bytes before after (Err e) = e ≢ fault.Read
 
 -- what a test of all that the reader has gives and writes, where that is known; where it fails, nothing is written
-abbrev pub Tests : Plan → List ℕ → Option (List ℕ) → Option (List ℕ) → Option (List ℕ) → Result Suite ServeFault → Type 0
+abbrev pub Tests : TestPlan → List ℕ → Option (List ℕ) → Option (List ℕ) → Option (List ℕ) → Result Suite ServeFault → Type 0
 Tests plan name unread before after (Ok suite) = IfSome unread (λ all. TestsBytes plan name all before after (Ok suite))
 Tests plan name unread before after (Err fault.Read) = Appends before after []
 Tests plan name unread before after (Err fault.Write) = ⊤

@@ -32,7 +32,7 @@ use clap::error::ErrorKind;
 use ent_line::{LinesFault, ServeFault, dump_lines};
 use ent_table::Limits;
 use ent_values::Items;
-use lint_declared::Attribute;
+use lint_declared::DeclaredAttribute;
 use std::fs::File;
 use std::io;
 use std::io::{BufReader, BufWriter, Read};
@@ -139,7 +139,7 @@ pub(crate) fn tell_place(rt: &impl Eprint, source: Source<'_>, told: &Option<Str
 pub(crate) fn read_declared<R: Files + Input + Eprint + AllocGlobal>(
     rt: &R,
     source: Source<'_>,
-) -> Result<Items<Attribute>, Unmet> {
+) -> Result<Items<DeclaredAttribute>, Unmet> {
     let bytes = read_source(rt, source, FILE_LIMIT as u64 + 1)?;
     match declared_in(rt.alloc(), bytes.as_slice()) {
         Ok(Declared::Attributes(attributes)) => Ok(attributes),

@@ -56,7 +56,7 @@ struct ReadFile {
 
 /// What a check comes to.
 #[derive(Drop)]
-pub(crate) struct Judged {
+pub(crate) struct CheckResult {
     /// The verdict on the file.
     pub(crate) verdict: Verdict,
     /// Where in the file what is wrong, if that can be said and was wanted: why it is refused, or else that an
@@ -161,7 +161,11 @@ fn told_if_wanted(
 }
 
 /// The verdict on the bytes of a file, and, if it is wanted, where in them what is wrong.
-pub(crate) fn judge(alloc: Global, bytes: &[u8], wants_place: bool) -> Result<Judged, AllocError>
+pub(crate) fn judge(
+    alloc: Global,
+    bytes: &[u8],
+    wants_place: bool,
+) -> Result<CheckResult, AllocError>
     ensures verdict { IfOk result (λ j. j.verdict ≡ verdict_of bytes.now) }
     ensures told { wants_place ≡ true
         → IfOk result (λ j. IsToldOf j.verdict (data_of bytes.now) (option_map string_bytes j.told)) }
@@ -169,7 +173,7 @@ pub(crate) fn judge(alloc: Global, bytes: &[u8], wants_place: bool) -> Result<Ju
 {
     let ReadFile { verdict, document } = read_file(alloc, bytes)?;
     let told = told_if_wanted(alloc, bytes, &verdict, wants_place)?;
-    Ok(Judged {
+    Ok(CheckResult {
         verdict,
         told,
         document,
@@ -187,7 +191,7 @@ pub(crate) fn is_passed(verdict: &Verdict) -> bool
 }
 
 /// Whether nothing is wrong with a file: its document may be stored, and nothing is told of it.
-pub(crate) fn is_fine(judged: &Judged) -> bool
+pub(crate) fn is_fine(judged: &CheckResult) -> bool
     ensures { result ≡ is_fine judged.now }
 {
     is_passed(&judged.verdict) && judged.told.is_none()
@@ -272,7 +276,7 @@ pub(crate) fn check<W: Write>(
     bytes: &[u8],
     wants_place: bool,
     writer: &mut W,
-) -> Result<Judged, ServeFault>
+) -> Result<CheckResult, ServeFault>
     ensures judges { Judges (Some bytes.now) (W.contents writer.old) (W.contents writer.new) (verdict_in result) }
     ensures told { wants_place ≡ true
         → IfOk result (λ j. IsToldOf j.verdict (data_of bytes.now) (option_map string_bytes j.told)) }

@@ -11,7 +11,7 @@ ghost use Rattle.ent_program.specs.Comparing.{pass, places_of, places_told, told
 
 use ent_line::{ServeFault, send_all};
 use itoa::Buffer;
-use script_files::{Comparison, Expected, Step};
+use script_files::{Expected, ReplyComparison, SentLine};
 use script_matching::{is_part, is_same, places};
 use std::alloc::{AllocError, Global};
 use std::io::Write;
@@ -44,14 +44,14 @@ fn is_as(alloc: Global, expected: &Expected, reply: &[u8]) -> Result<bool, Alloc
 {
     let text = expected.text.as_slice();
     match expected.comparison {
-        Comparison::Bytes => Ok(reply == text),
-        Comparison::Data => is_same(alloc, text, reply),
-        Comparison::Part => is_part(alloc, text, reply),
+        ReplyComparison::Bytes => Ok(reply == text),
+        ReplyComparison::Data => is_same(alloc, text, reply),
+        ReplyComparison::Part => is_part(alloc, text, reply),
     }
 }
 
 /// Whether a reply is as a step expects it; where it says nothing of it, whether it isn't a refusal.
-fn meets(alloc: Global, step: &Step, reply: &[u8]) -> Result<bool, AllocError>
+fn meets(alloc: Global, step: &SentLine, reply: &[u8]) -> Result<bool, AllocError>
     ensures { IfOk result (λ met. met ≡ meets step.now.expected reply.now) }
 {
     match &step.expected {
@@ -68,7 +68,7 @@ pub(crate) fn is_wanting(reply: &[u8]) -> bool
 }
 
 /// What is told to be expected in a step.
-fn wanted(step: &Step) -> &[u8]
+fn wanted(step: &SentLine) -> &[u8]
     ensures { result.now ≡ wanted step.now.expected }
 {
     match &step.expected {
@@ -78,18 +78,18 @@ fn wanted(step: &Step) -> &[u8]
 }
 
 /// The words before what is expected of a reply that is compared in this way.
-fn comparison_word(comparison: Comparison) -> &'static str
+fn comparison_word(comparison: ReplyComparison) -> &'static str
     ensures { result.now ≡ comparison_word comparison }
 {
     match comparison {
-        Comparison::Bytes => ": expected ",
-        Comparison::Data => ": expected = ",
-        Comparison::Part => ": expected ~ ",
+        ReplyComparison::Bytes => ": expected ",
+        ReplyComparison::Data => ": expected = ",
+        ReplyComparison::Part => ": expected ~ ",
     }
 }
 
 /// The words before what a step expects.
-fn expected_word(step: &Step) -> &'static str
+fn expected_word(step: &SentLine) -> &'static str
     ensures { result.now ≡ expected_word step.now.expected }
 {
     match &step.expected {
@@ -118,7 +118,7 @@ pub(crate) fn tell<'v, W: Write>(
 }
 
 /// The places at which a reply isn't as a step expects, where they are compared as JSON.
-fn places_of(alloc: Global, step: &Step, reply: &[u8]) -> Result<Vec<Vec<u8>>, AllocError>
+fn places_of(alloc: Global, step: &SentLine, reply: &[u8]) -> Result<Vec<Vec<u8>>, AllocError>
     ensures { IfOk result (λ v. map (λ p. p.items) v.items ≡ places_of step.now.expected reply.now) }
 {
     let Some(expected) = &step.expected else {
@@ -126,9 +126,9 @@ fn places_of(alloc: Global, step: &Step, reply: &[u8]) -> Result<Vec<Vec<u8>>, A
     };
     let text = expected.text.as_slice();
     match expected.comparison {
-        Comparison::Bytes => Ok(Vec::new(alloc)),
-        Comparison::Data => places(alloc, true, text, reply),
-        Comparison::Part => places(alloc, false, text, reply),
+        ReplyComparison::Bytes => Ok(Vec::new(alloc)),
+        ReplyComparison::Data => places(alloc, true, text, reply),
+        ReplyComparison::Part => places(alloc, false, text, reply),
     }
 }
 
@@ -153,7 +153,7 @@ fn tell_places<W: Write>(
 fn tell_difference<W: Write>(
     alloc: Global,
     name: &str,
-    step: &Step,
+    step: &SentLine,
     reply: &[u8],
     writer: &mut W,
 ) -> Result<(), ServeFault>
@@ -172,7 +172,7 @@ fn tell_difference<W: Write>(
 fn compare_one<W: Write>(
     alloc: Global,
     name: &str,
-    step: &Step,
+    step: &SentLine,
     reply: &[u8],
     writer: &mut W,
 ) -> Result<bool, ServeFault>
@@ -197,7 +197,7 @@ fn compare_one<W: Write>(
 pub(crate) fn compare<'r, W: Write>(
     alloc: Global,
     name: &str,
-    steps: &[Step],
+    steps: &[SentLine],
     replies: &'r [u8],
     writer: &mut W,
 ) -> Result<(bool, &'r [u8]), ServeFault>

@@ -3,12 +3,12 @@
 use crate::comparing::{compare, split_reply};
 use crate::differing::{Ending, Lines, MODULES};
 use crate::sharing::behind;
-use crate::testing::{Plan, is_chosen, push_asked, replies_to};
+use crate::testing::{TestPlan, is_chosen, push_asked, replies_to};
 use ent_line::{ServeFault, send_all};
 use ent_table::Limits;
 use script_compare::{members_at, names_text, value_of};
 use script_coverage::{RuleName, push_policies, push_rules, see_reply, shown, told, unseen};
-use script_files::{Session, Step, read_sessions};
+use script_files::{SentLine, Session, read_sessions};
 use serde_json::{Map, Value, put};
 use std::alloc::{AllocError, Global};
 use std::io::Write;
@@ -154,7 +154,7 @@ fn explaining(alloc: Global, line: &[u8]) -> Result<Vec<u8>, AllocError> {
 
 /// What is sent to see which rules give the decisions of a test: the lines of the state and its own, of which each that
 /// asks is explained, and then what asks for the documents.
-fn covering(alloc: Global, state: &[Step], session: &Session) -> Result<Vec<u8>, AllocError> {
+fn covering(alloc: Global, state: &[SentLine], session: &Session) -> Result<Vec<u8>, AllocError> {
     let mut lines = Vec::new(alloc);
     push_asked(state, &mut lines)?;
     for step in session.steps.as_slice() {
@@ -192,7 +192,12 @@ impl Covered {
     }
 
     /// Adds what the replies to a test tell, over a service of its own.
-    fn add(&mut self, alloc: Global, plan: Plan<'_>, session: &Session) -> Result<(), ServeFault> {
+    fn add(
+        &mut self,
+        alloc: Global,
+        plan: TestPlan<'_>,
+        session: &Session,
+    ) -> Result<(), ServeFault> {
         let lines = covering(alloc, plan.state, session)?;
         let replies = replies_to(alloc, plan.limits, session.modules, lines.as_slice())?;
         let mut rest = behind(plan.state, replies.as_slice());
@@ -210,7 +215,7 @@ impl Covered {
     pub(crate) fn add_file(
         &mut self,
         alloc: Global,
-        plan: Plan<'_>,
+        plan: TestPlan<'_>,
         bytes: &[u8],
     ) -> Result<(), ServeFault> {
         let Ok(sessions) = read_sessions(alloc, bytes) else {

@@ -6,13 +6,13 @@ ghost use Rattle.lint_places.specs.Places.{whole};
 ghost use Rattle.ent_program.specs.Checking.{Judges, is_passed, verdict_in, verdict_of};
 ghost use Rattle.ent_program.specs.Declaring.{AsksDeclared, TellsUndeclared, declared_of, seen};
 
-use crate::checking::{FILE_LIMIT, Judged, is_passed, judge, write_verdict};
+use crate::checking::{CheckResult, FILE_LIMIT, is_passed, judge, write_verdict};
 use ent_json::read_json;
 use ent_line::ServeFault;
 use ent_values::Items;
 use json::{Scratch, Value};
 use lint_declared::{
-    Attribute, AttributeFault, AttributesFault, DECLARED_KEYS, read_attributes, undeclared,
+    AttributeFault, AttributesFault, DECLARED_KEYS, DeclaredAttribute, read_attributes, undeclared,
 };
 use lint_messages::{explain_text, line_and_column};
 use std::alloc::{AllocError, Global};
@@ -33,7 +33,7 @@ pub enum DeclaredFault {
 #[derive(Drop)]
 pub(crate) enum Declared {
     /// It declares these; those that each request has stand first.
-    Attributes(Items<Attribute>),
+    Attributes(Items<DeclaredAttribute>),
     /// It can't be used, by this fault; and where in it what is wrong, if that can be said.
     Refused(DeclaredFault, Option<String>),
 }
@@ -115,7 +115,7 @@ pub(crate) fn declared_in(alloc: Global, bytes: &[u8]) -> Result<Declared, Alloc
 pub(crate) fn told_undeclared(
     alloc: Global,
     bytes: &[u8],
-    attributes: &[Attribute],
+    attributes: &[DeclaredAttribute],
 ) -> Result<Option<String>, AllocError>
     ensures { IfOk result (λ told. IfSome (data_of bytes.now)
         (λ d. TellsUndeclared attributes.now (whole d) (option_map string_bytes told))) }
@@ -137,9 +137,9 @@ pub(crate) fn told_undeclared(
 fn judge_declared(
     alloc: Global,
     bytes: &[u8],
-    attributes: &[Attribute],
+    attributes: &[DeclaredAttribute],
     wants_place: bool,
-) -> Result<Judged, AllocError>
+) -> Result<CheckResult, AllocError>
     ensures verdict { IfOk result (λ j. j.verdict ≡ verdict_of bytes.now) }
     ensures declared { is_passed (verdict_of bytes.now) ≡ true
         → IfOk result (λ j. AsksDeclared attributes.now (data_of bytes.now) j) }
@@ -149,7 +149,7 @@ fn judge_declared(
         return Ok(judged);
     }
     let told = told_undeclared(alloc, bytes, attributes)?;
-    Ok(Judged {
+    Ok(CheckResult {
         verdict: judged.verdict,
         told,
         document: judged.document,
@@ -161,10 +161,10 @@ fn judge_declared(
 pub(crate) fn check_declared<W: Write>(
     alloc: Global,
     bytes: &[u8],
-    attributes: &[Attribute],
+    attributes: &[DeclaredAttribute],
     wants_place: bool,
     writer: &mut W,
-) -> Result<Judged, ServeFault>
+) -> Result<CheckResult, ServeFault>
     ensures judges { Judges (Some bytes.now) (W.contents writer.old) (W.contents writer.new) (verdict_in result) }
     ensures declared { is_passed (verdict_of bytes.now) ≡ true
         → IfOk result (λ j. AsksDeclared attributes.now (data_of bytes.now) j) }

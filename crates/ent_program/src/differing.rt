@@ -15,7 +15,7 @@ use ent_line::{ServeFault, send_all};
 use ent_table::Limits;
 use json::Scratch;
 use script_compare::{Way, difference, has, is_nothing, markdown, shown};
-use script_files::Step;
+use script_files::SentLine;
 use serde_json::Value;
 use std::alloc::{AllocError, Global};
 use std::io::Write;
@@ -32,7 +32,7 @@ pub struct Lines<'a> {
     /// What the file is called.
     pub name: &'a str,
     /// Its lines.
-    pub steps: &'a [Step],
+    pub steps: &'a [SentLine],
 }
 
 /// How what differs is written.
@@ -80,7 +80,7 @@ fn says_format(alloc: Global, line: &[u8]) -> Result<bool, AllocError>
 }
 
 /// Whether lines are those of a state of their own.
-fn is_state(alloc: Global, steps: &[Step]) -> Result<bool, AllocError>
+fn is_state(alloc: Global, steps: &[SentLine]) -> Result<bool, AllocError>
     ensures { IfOk result (λ state. state ≡ is_state steps.now) }
 {
     match steps.first() {
@@ -93,9 +93,9 @@ fn is_state(alloc: Global, steps: &[Step]) -> Result<bool, AllocError>
 /// state.
 fn base_of<'a>(
     alloc: Global,
-    state: &'a [Step],
-    changes: &'a [Step],
-) -> Result<&'a [Step], AllocError>
+    state: &'a [SentLine],
+    changes: &'a [SentLine],
+) -> Result<&'a [SentLine], AllocError>
     ensures { IfOk result (λ base. base.now ≡ base_of state.now changes.now) }
 {
     if is_state(alloc, changes)? {
@@ -107,7 +107,7 @@ fn base_of<'a>(
 
 /// What is sent to have the table behind lines, and others behind those.
 #[tactic(auto, using(crate::proofs::Tests::asked_both))]
-fn asking(alloc: Global, first: &[Step], second: &[Step]) -> Result<Vec<u8>, AllocError>
+fn asking(alloc: Global, first: &[SentLine], second: &[SentLine]) -> Result<Vec<u8>, AllocError>
     ensures { IfOk result (λ v. v.items ≡ asked (first.now ++ second.now) ++ table_line) }
 {
     let mut lines = Vec::new(alloc);
@@ -123,7 +123,7 @@ fn table_behind<W: Write>(
     alloc: Global,
     limits: Limits,
     name: &str,
-    base: &[Step],
+    base: &[SentLine],
     lines: Lines<'_>,
     writer: &mut W,
 ) -> Result<Option<Vec<u8>>, ServeFault>

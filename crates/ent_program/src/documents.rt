@@ -3,16 +3,16 @@
 ghost use Rattle.std.specs.Prelude.{◌≡◌, Result};
 ghost use Rattle.ent_line.specs.declared.fault.ServeFault.TheVariants.{Memory};
 ghost use Rattle.ent_program.specs.Statuses.{checked_status};
-ghost use Rattle.ent_program.specs.declared.found.Found.{Found};
+ghost use Rattle.ent_program.specs.declared.found.FaultCount.{FaultCount};
 ghost use Rattle.ent_program.specs.declared.status.Unmet.{Unmet};
 
 use crate::acting::{read_declared, read_source, tell_place};
 use crate::asked_check::AskedCheck;
-use crate::checking::{FILE_LIMIT, Judged, Verdict, check, is_fine, is_passed};
+use crate::checking::{CheckResult, FILE_LIMIT, Verdict, check, is_fine, is_passed};
 use crate::declaring::{check_declared, told_undeclared};
 use crate::folders::paths_of;
-use crate::found::Found;
-use crate::known::Known;
+use crate::found::FaultCount;
+use crate::known::Vocabulary;
 use crate::meant::meant;
 use crate::misused::pass_check;
 use crate::sentences::{
@@ -26,8 +26,8 @@ use crate::status::{Unmet, check_status, tell};
 use ent_line::ServeFault;
 use ent_policy::Document;
 use ent_values::Items;
-use lint_declared::Attribute;
-use lint_links::{State, Together};
+use lint_declared::DeclaredAttribute;
+use lint_links::{StoredState, Together};
 use lint_messages::{explain_all, warnings};
 use std::alloc::{AllocError, Global};
 use std::io;
@@ -38,7 +38,7 @@ const NO_STATE: &str = "the state";
 
 /// A file that was judged by itself.
 #[derive(Drop)]
-struct Text {
+struct JudgedText {
     /// What it has.
     bytes: Vec<u8>,
     /// Whether it is a document that may be stored.
@@ -75,7 +75,7 @@ fn tell_refused<R: Eprint + AllocGlobal>(
     rt: &R,
     source: Source<'_>,
     bytes: &[u8],
-    judged: &Judged,
+    judged: &CheckResult,
     is_all: bool,
 ) -> Result<usize, AllocError> {
     if is_fine(judged) {
@@ -99,7 +99,7 @@ fn tell_unlisted<R: Eprint + AllocGlobal>(
     rt: &R,
     source: Source<'_>,
     bytes: &[u8],
-    known: &Known,
+    known: &Vocabulary,
 ) -> Result<usize, AllocError> {
     match told_undeclared(rt.alloc(), bytes, known.with_names())? {
         None => Ok(0),
@@ -138,9 +138,9 @@ fn tell_warnings<R: Eprint + AllocGlobal>(
 fn judge_bytes<R: Print + Eprint + AllocGlobal>(
     rt: &R,
     bytes: &[u8],
-    known: &Option<Known>,
+    known: &Option<Vocabulary>,
     is_all: bool,
-) -> Result<Judged, ServeFault> {
+) -> Result<CheckResult, ServeFault> {
     let alloc = rt.alloc();
     let writer = &mut io::writer(rt);
     let judged = match known {
@@ -158,11 +158,11 @@ fn tell_judged<R: Eprint + AllocGlobal>(
     rt: &R,
     source: Source<'_>,
     bytes: &[u8],
-    judged: &Judged,
-    known: &Option<Known>,
+    judged: &CheckResult,
+    known: &Option<Vocabulary>,
     is_all: bool,
-) -> Result<Found, AllocError> {
-    let mut found = Found::nothing();
+) -> Result<FaultCount, AllocError> {
+    let mut found = FaultCount::nothing();
     found.add(tell_refused(rt, source, bytes, judged, is_all)?, 0);
     if let Some(document) = &judged.document {
         found.add(0, tell_warnings(rt, source, bytes, document)?);
@@ -177,10 +177,10 @@ fn tell_judged<R: Eprint + AllocGlobal>(
 fn judge_source<R: Files + Input + Print + Eprint + AllocGlobal>(
     rt: &R,
     source: Source<'_>,
-    known: &Option<Known>,
+    known: &Option<Vocabulary>,
     is_all: bool,
-    found: &mut Found,
-) -> Result<Text, ServeFault> {
+    found: &mut FaultCount,
+) -> Result<JudgedText, ServeFault> {
     let bytes = read_source(rt, source, FILE_LIMIT as u64 + 1)?;
     let judged = judge_bytes(rt, bytes.as_slice(), known, is_all)?;
     let is_document = is_passed(&judged.verdict);
@@ -188,17 +188,17 @@ fn judge_source<R: Files + Input + Print + Eprint + AllocGlobal>(
         Ok(more) => found.add(more.faults, more.warnings),
         Err(_) => return Err(wanting(rt)),
     }
-    Ok(Text { bytes, is_document })
+    Ok(JudgedText { bytes, is_document })
 }
 
 /// Judges the documents of the sources that the words name, each by itself.
 fn judge_each<R: Files + Input + Print + Eprint + AllocGlobal>(
     rt: &R,
     words: &[&str],
-    known: &Option<Known>,
+    known: &Option<Vocabulary>,
     is_all: bool,
-    found: &mut Found,
-) -> Result<Vec<Text>, ServeFault> {
+    found: &mut FaultCount,
+) -> Result<Vec<JudgedText>, ServeFault> {
     let mut texts = Vec::new(rt.alloc());
     for &word in words {
         let text = judge_source(rt, Source::named(word), known, is_all, found)?;
@@ -212,11 +212,11 @@ fn judge_each<R: Files + Input + Print + Eprint + AllocGlobal>(
 /// Says what is wrong with the documents of a state and of files together, and what may not be meant.
 fn tell_together<R: Eprint + AllocGlobal>(
     rt: &R,
-    state: State,
+    state: StoredState,
     name: &str,
     words: &[&str],
-    texts: &[Text],
-    found: &mut Found,
+    texts: &[JudgedText],
+    found: &mut FaultCount,
 ) -> Result<(), AllocError> {
     let mut together = Together::new(rt.alloc(), name, state);
     for (word, text) in words.iter().zip(texts) {
@@ -266,7 +266,7 @@ fn bytes_of<R: Files + Input + Eprint + AllocGlobal>(
 fn attributes_of<R: Files + Input + Eprint + AllocGlobal>(
     rt: &R,
     asked: &AskedCheck<'_, '_>,
-) -> Result<Option<Items<Attribute>>, Unmet> {
+) -> Result<Option<Items<DeclaredAttribute>>, Unmet> {
     match asked.attributes {
         Some(source) => Ok(Some(read_declared(rt, source)?)),
         None if asked.lines.is_some() => {
@@ -281,14 +281,14 @@ fn attributes_of<R: Files + Input + Eprint + AllocGlobal>(
 /// and by those beside it.
 fn known_by<R: Eprint + AllocGlobal>(
     rt: &R,
-    attributes: Option<Items<Attribute>>,
+    attributes: Option<Items<DeclaredAttribute>>,
     state: &[u8],
     lines: &[u8],
-) -> Result<Option<Known>, ServeFault> {
+) -> Result<Option<Vocabulary>, ServeFault> {
     let Some(attributes) = attributes else {
         return Ok(None);
     };
-    match Known::new(rt.alloc(), attributes, state, lines) {
+    match Vocabulary::new(rt.alloc(), attributes, state, lines) {
         Ok(known) => Ok(Some(known)),
         Err(_) => Err(wanting(rt)),
     }
@@ -307,7 +307,7 @@ fn borrowed(alloc: Global, paths: &[String]) -> Result<Vec<&str>, AllocError> {
 fn check_all<R: Files + Input + Print + Eprint + AllocGlobal>(
     rt: &R,
     asked: &AskedCheck<'_, '_>,
-) -> Result<Found, Unmet> {
+) -> Result<FaultCount, Unmet> {
     pass_check(rt, asked)?;
     let paths = paths_of(rt, asked.files)?;
     let Ok(words) = borrowed(rt.alloc(), paths.files.as_slice()) else {
@@ -336,20 +336,20 @@ fn check_words<R: Files + Input + Print + Eprint + AllocGlobal>(
     asked: &AskedCheck<'_, '_>,
     words: &[&str],
     empty: usize,
-) -> Result<Found, Unmet> {
+) -> Result<FaultCount, Unmet> {
     let attributes = attributes_of(rt, asked)?;
     let state_lines = bytes_of(rt, asked.stored)?;
     let lines = bytes_of(rt, asked.lines)?;
     let known = known_by(rt, attributes, state_lines.as_slice(), lines.as_slice())?;
     let (state, name) = match asked.stored {
-        None => (State::new(rt.alloc()), NO_STATE),
+        None => (StoredState::new(rt.alloc()), NO_STATE),
         Some(source) => (
             read_state(rt, source, state_lines.as_slice())?,
             source.name(),
         ),
     };
     let is_alone = words.len() == 1 && asked.stored.is_none() && empty == 0;
-    let mut found = Found::nothing();
+    let mut found = FaultCount::nothing();
     found.add(empty, 0);
     let texts = judge_each(rt, words, &known, asked.is_all, &mut found)?;
     if !is_alone {
@@ -374,7 +374,7 @@ pub(crate) fn check_documents<R: Files + Input + Print + Eprint + AllocGlobal>(
     rt: &R,
     asked: AskedCheck<'_, '_>,
 ) -> u8
-    ensures { (checked : Result Found Unmet) × (result ≡ checked_status asked.entry.is_strict checked) }
+    ensures { (checked : Result FaultCount Unmet) × (result ≡ checked_status asked.entry.is_strict checked) }
 {
     let checked = check_all(rt, &asked);
     check_status(asked.is_strict, checked)

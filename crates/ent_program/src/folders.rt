@@ -98,7 +98,7 @@ fn put_word<R: Files + AllocGlobal>(rt: &R, word: &str, paths: &mut Vec<String>)
 
 /// What words name.
 #[derive(Drop)]
-pub(crate) struct Paths {
+pub(crate) struct NamedPaths {
     /// The words, with the paths of its documents in the place of each folder, in the order of the bytes of their
     /// names.
     pub(crate) files: Vec<String>,
@@ -106,7 +106,7 @@ pub(crate) struct Paths {
     pub(crate) empty: Vec<String>,
 }
 
-impl Paths {
+impl NamedPaths {
     /// Puts what a word names last.
     fn put<R: Files + AllocGlobal>(&mut self, rt: &R, word: &str) -> io::Result<()> {
         let before = self.files.len();
@@ -122,9 +122,9 @@ impl Paths {
 pub(crate) fn paths_of<R: Files + Eprint + AllocGlobal>(
     rt: &R,
     words: &[&str],
-) -> Result<Paths, ServeFault> {
+) -> Result<NamedPaths, ServeFault> {
     let alloc = rt.alloc();
-    let mut paths = Paths {
+    let mut paths = NamedPaths {
         files: Vec::new(alloc),
         empty: Vec::new(alloc),
     };

@@ -2,17 +2,17 @@
 
 /// How many faults were told, and how many warnings.
 #[derive(Clone, Copy, Debug, PartialEq, Eq)]
-pub(crate) struct Found {
+pub(crate) struct FaultCount {
     /// What is wrong.
     pub(crate) faults: usize,
     /// What may not be meant.
     pub(crate) warnings: usize,
 }
 
-impl Found {
+impl FaultCount {
     /// Nothing.
-    pub(crate) fn nothing() -> Found {
-        Found {
+    pub(crate) fn nothing() -> FaultCount {
+        FaultCount {
             faults: 0,
             warnings: 0,
         }

@@ -59,5 +59,5 @@ pub use sentences::{
 pub use sources::Source;
 pub use status::{lines_status, serve_status, status_of, test_status, usage_status, words_status};
 pub use tally::{Tally, send_tally};
-pub use testing::{Plan, test_from};
+pub use testing::{TestPlan, test_from};
 pub use words::{WordsFault, command, given_words};

@@ -9,7 +9,7 @@ ghost use Rattle.ent_program.specs.Testing.{chosen};
 
 use crate::comparing::tell;
 use crate::tally::Tally;
-use crate::testing::{Plan, is_chosen};
+use crate::testing::{TestPlan, is_chosen};
 use crate::untested::{NO_TEST, tell_mistake};
 use ent_line::ServeFault;
 use script_files::{Session, SessionFault, read_sessions};
@@ -18,7 +18,7 @@ use std::io::Write;
 
 /// How many of these sessions would run.
 #[tactic(auto, using(crate::proofs::Headings::counted_more))]
-fn count_chosen(plan: Plan<'_>, sessions: &[Session]) -> usize
+fn count_chosen(plan: TestPlan<'_>, sessions: &[Session]) -> usize
     ensures { result ≡ length (chosen plan.entry sessions.now) }
 {
     let mut count = 0;
@@ -33,7 +33,7 @@ fn count_chosen(plan: Plan<'_>, sessions: &[Session]) -> usize
 /// Writes where each of the sessions begins that would run, and what it is called.
 #[tactic(auto, using(crate::proofs::Headings::listed_more, crate::proofs::Headings::listed_same))]
 fn tell_chosen<W: Write>(
-    plan: Plan<'_>,
+    plan: TestPlan<'_>,
     name: &str,
     sessions: &[Session],
     writer: &mut W,
@@ -59,7 +59,7 @@ fn tell_chosen<W: Write>(
 #[tactic(auto, using(crate::proofs::Headings::all_listed, crate::proofs::Headings::misplaced_listed))]
 pub fn list_tests<W: Write>(
     alloc: Global,
-    plan: Plan<'_>,
+    plan: TestPlan<'_>,
     name: &str,
     bytes: &[u8],
     writer: &mut W,

@@ -1,7 +1,7 @@
 //! `review check --lines`: lines of commands, by the attributes that are declared and the names that are listed.
 
 use crate::documents::wanting;
-use crate::known::Known;
+use crate::known::Vocabulary;
 use crate::sentences::line_sentence;
 use crate::sources::{Shown, Source};
 use ent_line::{ServeFault, command_words};
@@ -27,7 +27,7 @@ fn tell_lines<R: Eprint + AllocGlobal>(
     faulty: &[FaultyLine],
     lines: &[&[u8]],
     commands: &[&str],
-    known: &Known,
+    known: &Vocabulary,
 ) -> Result<(), AllocError> {
     let name = Shown(source.name());
     for one in faulty.iter().take(MOST_LINES) {
@@ -56,7 +56,7 @@ fn told_lines<R: Eprint + AllocGlobal>(
     rt: &R,
     source: Source<'_>,
     text: &[u8],
-    known: &Known,
+    known: &Vocabulary,
 ) -> Result<(usize, usize), AllocError> {
     let alloc = rt.alloc();
     let lines = lines_of(alloc, text)?;
@@ -79,7 +79,7 @@ pub(crate) fn check_lines<R: Eprint + AllocGlobal>(
     rt: &R,
     source: Source<'_>,
     text: &[u8],
-    known: &Known,
+    known: &Vocabulary,
 ) -> Result<(usize, usize), ServeFault> {
     match told_lines(rt, source, text, known) {
         Ok(counts) => Ok(counts),

@@ -10,10 +10,10 @@ ghost use Rattle.ent_program.specs.proofs_only.Sharing.{shared_steps, shares, sh
 
 use crate::comparing::split_reply;
 use crate::differing::MODULES;
-use crate::testing::{Plan, few, is_chosen, push_asked, replies_to, run_by, run_one};
+use crate::testing::{TestPlan, few, is_chosen, push_asked, replies_to, run_by, run_one};
 use ent_line::{ServeFault, only_asks, questions_leave_all, replies_are_fresh};
-use script_files::{Session, Step};
-use script_junit::Case;
+use script_files::{SentLine, Session};
+use script_junit::TestCase;
 use std::alloc::{AllocError, Global};
 use std::io::Write;
 
@@ -29,7 +29,7 @@ pub(crate) struct AtHand<'r> {
 }
 
 /// Whether what is sent in a step is one line.
-fn is_line(step: &Step) -> bool
+fn is_line(step: &SentLine) -> bool
     ensures { result ≡ is_line step.now }
 {
     let line = step.line.as_slice();
@@ -42,7 +42,7 @@ fn is_line(step: &Step) -> bool
 }
 
 /// Whether what is sent in each of these steps is one line.
-pub(crate) fn are_lines(steps: &[Step]) -> bool
+pub(crate) fn are_lines(steps: &[SentLine]) -> bool
     ensures { result ≡ are_lines steps.now }
 {
     for step in steps {
@@ -54,7 +54,7 @@ pub(crate) fn are_lines(steps: &[Step]) -> bool
 }
 
 /// Whether what is sent in a step is one line, which only asks.
-fn is_asking(alloc: Global, step: &Step) -> Result<bool, AllocError>
+fn is_asking(alloc: Global, step: &SentLine) -> Result<bool, AllocError>
     ensures { IfOk result (λ asks. asks ≡ is_asking step.now) }
 {
     if !is_line(step) {
@@ -64,7 +64,7 @@ fn is_asking(alloc: Global, step: &Step) -> Result<bool, AllocError>
 }
 
 /// Whether what is sent in each of these steps is one line, which only asks.
-fn are_asking(alloc: Global, steps: &[Step]) -> Result<bool, AllocError>
+fn are_asking(alloc: Global, steps: &[SentLine]) -> Result<bool, AllocError>
     ensures { IfOk result (λ ask. ask ≡ are_asking steps.now) }
 {
     for step in steps {
@@ -79,7 +79,7 @@ fn are_asking(alloc: Global, steps: &[Step]) -> Result<bool, AllocError>
 fn shares(
     alloc: Global,
     is_clean: bool,
-    plan: Plan<'_>,
+    plan: TestPlan<'_>,
     session: &Session,
 ) -> Result<bool, AllocError>
     requires { is_clean ≡ are_lines plan.state.now }
@@ -95,7 +95,7 @@ fn shares(
 fn push_shared(
     alloc: Global,
     is_clean: bool,
-    plan: Plan<'_>,
+    plan: TestPlan<'_>,
     sessions: &[Session],
     lines: &mut Vec<u8>,
 ) -> Result<bool, AllocError>
@@ -118,7 +118,7 @@ fn push_shared(
 pub(crate) fn shared_replies(
     alloc: Global,
     is_clean: bool,
-    plan: Plan<'_>,
+    plan: TestPlan<'_>,
     sessions: &[Session],
 ) -> Result<Vec<u8>, ServeFault>
     requires { is_clean ≡ are_lines plan.state.now }
@@ -137,7 +137,7 @@ pub(crate) fn shared_replies(
 }
 
 /// What stands behind the replies to steps.
-pub(crate) fn behind<'r>(steps: &[Step], replies: &'r [u8]) -> &'r [u8]
+pub(crate) fn behind<'r>(steps: &[SentLine], replies: &'r [u8]) -> &'r [u8]
     ensures { result.now ≡ behind steps.now replies.now }
 {
     let mut rest = replies;
@@ -149,7 +149,7 @@ pub(crate) fn behind<'r>(steps: &[Step], replies: &'r [u8]) -> &'r [u8]
 }
 
 /// The replies to steps at the front of others, and what stands behind them.
-pub(crate) fn split_replies<'r>(steps: &[Step], replies: &'r [u8]) -> (&'r [u8], &'r [u8])
+pub(crate) fn split_replies<'r>(steps: &[SentLine], replies: &'r [u8]) -> (&'r [u8], &'r [u8])
     ensures front { result.0.now ≡ front steps.now replies.now }
     ensures behind { result.1.now ≡ behind steps.now replies.now }
 {
@@ -162,12 +162,12 @@ pub(crate) fn split_replies<'r>(steps: &[Step], replies: &'r [u8]) -> (&'r [u8],
 /// Writes what isn't as it is to be, and says what became of the test, and which replies are left.
 pub(crate) fn run_next<'r, W: Write>(
     alloc: Global,
-    plan: Plan<'_>,
+    plan: TestPlan<'_>,
     name: &str,
     session: &Session,
     at_hand: AtHand<'r>,
     writer: &mut W,
-) -> Result<(Case, &'r [u8]), ServeFault>
+) -> Result<(TestCase, &'r [u8]), ServeFault>
     requires clean { at_hand.is_clean ≡ are_lines plan.state.now }
     requires at_hand { shares plan session.now ≡ true → AreRepliesTo plan.limits session.now.modules
         (sent_to plan.state.now session.now) (at_hand.first.now ++ front session.now.steps at_hand.rest.now) }

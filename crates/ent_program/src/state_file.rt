@@ -5,7 +5,7 @@ use crate::sentences::state_sentence;
 use crate::sources::{Shown, Source};
 use crate::status::Unmet;
 use ent_line::LINE_LIMIT;
-use lint_links::{State, StateFault};
+use lint_links::{StateFault, StoredState};
 
 /// The number of the first line that no service reads, as it has too many bytes.
 fn long_line(lines: &[u8]) -> Option<usize> {
@@ -42,9 +42,9 @@ pub(crate) fn read_state<R: Eprint + AllocGlobal>(
     rt: &R,
     source: Source<'_>,
     lines: &[u8],
-) -> Result<State, Unmet> {
+) -> Result<StoredState, Unmet> {
     pass_lines(rt, source, lines)?;
-    match State::of(rt.alloc(), lines) {
+    match StoredState::of(rt.alloc(), lines) {
         Ok(state) => Ok(state),
         Err(StateFault::NotDump(line)) => {
             let _ = rt.eprintln(state_sentence());

@@ -9,7 +9,7 @@ ghost use Rattle.ent_program.specs.Statuses.{test_status, usage_status, words_st
 ghost use Rattle.ent_program.specs.declared.status.Unmet.TheVariants as unmet;
 
 use crate::differing::{Ending, Failing};
-use crate::found::Found;
+use crate::found::FaultCount;
 use crate::limiting::WrongLimit;
 use crate::sentences::{fault_sentence, lines_sentence, words_sentence};
 use crate::sources::Shown;
@@ -100,7 +100,7 @@ pub fn serve_status(rt: &impl Eprint, served: Result<u64, ServeFault>) -> u8
 }
 
 /// The exit status by what a check found: a warning counts where that is asked for.
-fn found_status(found: Found, is_strict: bool) -> u8
+fn found_status(found: FaultCount, is_strict: bool) -> u8
     ensures { result ≡ found_status is_strict found }
 {
     if found.faults == 0 && (found.warnings == 0 || !is_strict) {
@@ -111,7 +111,7 @@ fn found_status(found: Found, is_strict: bool) -> u8
 }
 
 /// The exit status of a check, where a warning counts or not.
-pub(crate) fn check_status(is_strict: bool, checked: Result<Found, Unmet>) -> u8
+pub(crate) fn check_status(is_strict: bool, checked: Result<FaultCount, Unmet>) -> u8
     ensures { result ≡ checked_status is_strict checked }
 {
     match checked {

@@ -20,8 +20,8 @@ use crate::untested::{NO_TEST, line_on, misplaced_line, untested};
 use ent_line::{ServeFault, send_all};
 use ent_table::Limits;
 use ent_values::Items;
-use script_files::{Session, SessionFault, Step, read_sessions};
-use script_junit::{Case, Suite};
+use script_files::{SentLine, Session, SessionFault, read_sessions};
+use script_junit::{Suite, TestCase};
 use std::alloc::{AllocError, Global};
 use std::io::{ErrorKind, Read, Write};
 
@@ -30,27 +30,27 @@ const NOTHING_EXPECTED: &[u8] = b"no reply is expected";
 
 /// From what each test of a file begins, and which of them run.
 #[derive(Clone, Copy)]
-pub struct Plan<'a> {
+pub struct TestPlan<'a> {
     /// What the file of the lines is called with which each test begins.
     pub state_name: &'a str,
     /// These lines.
-    pub state: &'a [Step],
+    pub state: &'a [SentLine],
     /// What the tests are called that run, where not all do.
     pub only: Option<&'a str>,
     /// The limits of their services.
     pub limits: Limits,
 }
 
-impl Plan<'_> {
+impl TestPlan<'_> {
     /// No lines, all tests run, and the limits are those that hold where none are given.
     ///
     /// Its contract leaves open: the name of the file of the state, of which there is none.
-    pub fn all() -> Plan<'static>
+    pub fn all() -> TestPlan<'static>
         ensures state { result.state.now ≡ [] }
         ensures only { result.only ≡ None }
         ensures limits { result.limits ≡ standard_limits }
     {
-        Plan {
+        TestPlan {
             state_name: "",
             state: &[],
             only: None,
@@ -72,7 +72,7 @@ fn read_whole<R: Read>(alloc: Global, reader: &mut R) -> Result<Vec<u8>, ServeFa
 }
 
 /// Puts the lines of steps, each with its newline, behind others.
-pub(crate) fn push_asked(steps: &[Step], lines: &mut Vec<u8>) -> Result<(), AllocError>
+pub(crate) fn push_asked(steps: &[SentLine], lines: &mut Vec<u8>) -> Result<(), AllocError>
     ensures { OnOk result (lines.new.items ≡ lines.old.items ++ asked steps.now) }
 {
     for step in steps {
@@ -118,7 +118,7 @@ pub(crate) fn replies_to(
 
 /// What is sent to the service of a session: the lines of a state, and then its own.
 #[tactic(auto, using(crate::proofs::Tests::asked_both))]
-fn sent_to(alloc: Global, state: &[Step], session: &Session) -> Result<Vec<u8>, AllocError>
+fn sent_to(alloc: Global, state: &[SentLine], session: &Session) -> Result<Vec<u8>, AllocError>
     ensures { IfOk result (λ v. v.items ≡ sent_to state.now session.now) }
 {
     let mut lines = Vec::new(alloc);
@@ -128,7 +128,7 @@ fn sent_to(alloc: Global, state: &[Step], session: &Session) -> Result<Vec<u8>, 
 }
 
 /// Whether steps say of a reply what it is to be.
-fn has_expected(steps: &[Step]) -> bool
+fn has_expected(steps: &[SentLine]) -> bool
     ensures { result ≡ has_expected steps.now }
 {
     for step in steps {
@@ -166,7 +166,7 @@ fn compare_test<W: Write>(
 #[tactic(auto, using(crate::proofs::Tests::failing, crate::proofs::Tests::passing, crate::proofs::Tests::refusing))]
 fn judge<W: Write>(
     alloc: Global,
-    plan: Plan<'_>,
+    plan: TestPlan<'_>,
     name: &str,
     session: &Session,
     replies: &[u8],
@@ -211,7 +211,7 @@ fn case_of(
     session: &Session,
     passed: bool,
     told: Vec<u8>,
-) -> Result<Case, AllocError>
+) -> Result<TestCase, AllocError>
     ensures { IfOk result (λ test. test ≡ record {
       name = session.now.name;
       number = session.now.number;
@@ -220,7 +220,7 @@ fn case_of(
     }) }
 {
     let name = Vec::from_slice(alloc, session.name.as_slice())?;
-    Ok(Case {
+    Ok(TestCase {
         name: Items::from_vec(name),
         number: session.number,
         passed,
@@ -233,12 +233,12 @@ fn case_of(
 #[tactic(auto, using(crate::proofs::Tests::told_alone))]
 pub(crate) fn run_by<W: Write>(
     alloc: Global,
-    plan: Plan<'_>,
+    plan: TestPlan<'_>,
     name: &str,
     session: &Session,
     replies: &[u8],
     writer: &mut W,
-) -> Result<Case, ServeFault>
+) -> Result<TestCase, ServeFault>
     ensures ran { IfOk result (λ test. (sure plan.entry (session.now, replies.now) ≡ true)
         × (test ≡ case_of name.now plan.entry (session.now, replies.now))) }
     ensures told { IfOk result (λ test. Appends (W.contents writer.old) (W.contents writer.new) test.told) }
@@ -257,11 +257,11 @@ pub(crate) fn run_by<W: Write>(
 /// Runs a session over a service of its own, writes what isn't as it is to be, and says what became of it.
 pub(crate) fn run_one<W: Write>(
     alloc: Global,
-    plan: Plan<'_>,
+    plan: TestPlan<'_>,
     name: &str,
     session: &Session,
     writer: &mut W,
-) -> Result<Case, ServeFault>
+) -> Result<TestCase, ServeFault>
     ensures ran { IfOk result (λ test. IsRun plan.entry name.now session.now test) }
     ensures told { IfOk result (λ test. Appends (W.contents writer.old) (W.contents writer.new) test.told) }
     ensures fault { IfErr result (λ e. e ≢ Read) }
@@ -275,11 +275,11 @@ pub(crate) fn run_one<W: Write>(
 /// each as over a service of its own, but those that only ask share one.
 fn test_each<W: Write>(
     alloc: Global,
-    plan: Plan<'_>,
+    plan: TestPlan<'_>,
     name: &str,
     sessions: &[Session],
     writer: &mut W,
-) -> Result<Items<Case>, ServeFault>
+) -> Result<Items<TestCase>, ServeFault>
     ensures { TestsEach plan.entry name.now sessions.now (W.contents writer.old) (W.contents writer.new) result }
 {
     let is_clean = are_lines(plan.state);
@@ -305,7 +305,7 @@ fn test_each<W: Write>(
 /// says what became of them.
 fn test_bytes<'n, W: Write>(
     alloc: Global,
-    plan: Plan<'_>,
+    plan: TestPlan<'_>,
     name: &'n str,
     bytes: &[u8],
     writer: &mut W,
@@ -351,7 +351,7 @@ fn test_bytes<'n, W: Write>(
 /// how much a failing writer took.
 pub fn test_from<'n, R: Read, W: Write>(
     alloc: Global,
-    plan: Plan<'_>,
+    plan: TestPlan<'_>,
     name: &'n str,
     reader: &mut R,
     writer: &mut W,

@@ -13,11 +13,11 @@ use crate::misused::pass_tests;
 use crate::sources::Source;
 use crate::status::{REFUSED, fault_status, status_of, tell, test_status, unmet_status};
 use crate::tally::{Tally, send_tally};
-use crate::testing::{Plan, test_from};
+use crate::testing::{TestPlan, test_from};
 use ent_line::{ServeFault, send_all};
 use ent_table::Limits;
 use ent_values::Items;
-use script_files::{Step, read_lines};
+use script_files::{SentLine, read_lines};
 use script_junit::Suite;
 use std::alloc::{AllocError, Global};
 use std::io;
@@ -109,7 +109,7 @@ fn covered_status(rt: &impl Eprint, least: Option<usize>, share: &Option<Share>,
 pub(crate) fn read_state<R: Files + Input + Eprint + AllocGlobal>(
     rt: &R,
     source: Source<'_>,
-) -> Result<Items<Step>, ServeFault> {
+) -> Result<Items<SentLine>, ServeFault> {
     let bytes = read_source(rt, source, u64::MAX)?;
     match read_lines(rt.alloc(), bytes.as_slice()) {
         Ok(lines) => Ok(lines),
@@ -121,7 +121,7 @@ pub(crate) fn read_state<R: Files + Input + Eprint + AllocGlobal>(
 /// standard error.
 fn run_source<'a, R: Files + Input + Eprint + AllocGlobal, W: Write>(
     rt: &R,
-    plan: Plan<'_>,
+    plan: TestPlan<'_>,
     source: Source<'a>,
     writer: &mut W,
     covered: &mut Option<Covered>,
@@ -145,7 +145,7 @@ fn run_source<'a, R: Files + Input + Eprint + AllocGlobal, W: Write>(
 /// passed; a fault is told on standard error.
 fn test_source<'a, R: Files + Input + Eprint + AllocGlobal, W: Write>(
     rt: &R,
-    plan: Plan<'_>,
+    plan: TestPlan<'_>,
     source: Source<'a>,
     writer: &mut W,
     gathered: &mut Gathered<'a>,
@@ -169,7 +169,7 @@ fn test_source<'a, R: Files + Input + Eprint + AllocGlobal, W: Write>(
 /// Lists the tests of a source that would run. Gives how many there are; a fault is told on standard error.
 fn list_source<R: Files + Input + Eprint + AllocGlobal, W: Write>(
     rt: &R,
-    plan: Plan<'_>,
+    plan: TestPlan<'_>,
     source: Source<'_>,
     writer: &mut W,
 ) -> Result<Tally, ServeFault> {
@@ -183,7 +183,7 @@ fn list_source<R: Files + Input + Eprint + AllocGlobal, W: Write>(
 /// Lists the tests of each source that the words name, in turn; one that can't be read doesn't keep the others from it.
 fn list_each<R: Files + Input + Eprint + AllocGlobal, W: Write>(
     rt: &R,
-    plan: Plan<'_>,
+    plan: TestPlan<'_>,
     words: &[&str],
     writer: &mut W,
 ) -> Ended {
@@ -201,7 +201,7 @@ fn list_each<R: Files + Input + Eprint + AllocGlobal, W: Write>(
 /// exit status.
 fn list_by<R: Files + Input + Print + Eprint + AllocGlobal>(
     rt: &R,
-    plan: Plan<'_>,
+    plan: TestPlan<'_>,
     words: &[&str],
 ) -> u8
     ensures { IsOfTests result }
@@ -221,7 +221,7 @@ fn list_by<R: Files + Input + Print + Eprint + AllocGlobal>(
 /// read doesn't keep the others from it.
 fn test_each<'a, R: Files + Input + Eprint + AllocGlobal, W: Write>(
     rt: &R,
-    plan: Plan<'_>,
+    plan: TestPlan<'_>,
     words: &[&'a str],
     writer: &mut W,
     gathered: &mut Gathered<'a>,
@@ -259,7 +259,7 @@ fn write_end<W: Write>(
 /// passed, and to the file of that path, if there is one, what became of them as JUnit XML. Gives the exit status.
 fn test_by<R: Files + Input + Print + Eprint + AllocGlobal>(
     rt: &R,
-    plan: Plan<'_>,
+    plan: TestPlan<'_>,
     tests: AskedTests<'_, '_>,
 ) -> u8
     ensures { IsOfTests result }
@@ -295,10 +295,10 @@ pub(crate) fn run_tests<R: Files + Input + Print + Eprint + AllocGlobal>(
     if let Err(unmet) = pass_tests(rt, &tests) {
         return unmet_status(unmet);
     }
-    let plan = Plan {
+    let plan = TestPlan {
         only: tests.only,
         limits,
-        ..Plan::all()
+        ..TestPlan::all()
     };
     if tests.listed {
         return list_by(rt, plan, tests.files);
@@ -308,7 +308,7 @@ pub(crate) fn run_tests<R: Files + Input + Print + Eprint + AllocGlobal>(
     };
     match read_state(rt, source) {
         Ok(state) => {
-            let plan = Plan {
+            let plan = TestPlan {
                 state_name: source.name(),
                 state: state.as_slice(),
                 only: tests.only,

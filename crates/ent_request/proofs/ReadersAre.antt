@@ -24,7 +24,7 @@ use Rattle.ent_request.specs.declared.key.ReadKey.TheVariants as key
 use Rattle.ent_request.specs.declared.question.Asked.{Asked}
 use Rattle.ent_request.specs.declared.question.Question.{Question}
 use Rattle.ent_request.specs.declared.question.Question.TheVariants.{Root, Ref, Of}
-use Rattle.ent_request.specs.declared.readers.Place.TheVariants.{Person, Action, Resource}
+use Rattle.ent_request.specs.declared.readers.NamePlace.TheVariants.{Person, Action, Resource}
 use Rattle.ent_request.specs.declared.readers.Readers.TheVariants.{Named, Nobody}
 use Rattle.ent_request.specs.declared.request.Request.{Request}
 use Rattle.ent_request.specs.Listed.{listed}

@@ -8,8 +8,8 @@ use Rattle.ent_finder.specs.declared.row.AttrKey.{AttrKey}
 use Rattle.ent_request.specs.declared.key.ReadKey.{ReadKey}
 use Rattle.ent_request.specs.declared.key.ReadKey.TheVariants as key
 use Rattle.ent_request.specs.declared.question.Question.{Question}
-use Rattle.ent_request.specs.declared.readers.Place.{Place}
-use Rattle.ent_request.specs.declared.readers.Place.TheVariants.{Person, Action, Resource}
+use Rattle.ent_request.specs.declared.readers.NamePlace.{NamePlace}
+use Rattle.ent_request.specs.declared.readers.NamePlace.TheVariants.{Person, Action, Resource}
 use Rattle.ent_request.specs.declared.readers.Readers.{Readers}
 use Rattle.ent_request.specs.declared.readers.Readers.TheVariants.{Every, Named, Nobody}
 use Rattle.ent_request.specs.Listed.{listed}
@@ -41,7 +41,7 @@ entity_in (key.Attr k) = k.entity
 entity_in _ = []
 
 -- the name at a place of a listed request
-abbrev pub name_at : Place → List ℕ → List ℕ → List ℕ → List ℕ
+abbrev pub name_at : NamePlace → List ℕ → List ℕ → List ℕ → List ℕ
 name_at Person person action resource = person
 name_at Action person action resource = action
 name_at Resource person action resource = resource

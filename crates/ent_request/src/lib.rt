@@ -37,7 +37,7 @@ pub use own_bag::{is_among, is_empty, lacks, only_own};
 pub use question::{Asked, Question, same_reference};
 pub use questions::Questions;
 pub use readers::{
-    Place, Readers, a_key_is_looked_up_for_one_question, keys_name_the_listed,
+    NamePlace, Readers, a_key_is_looked_up_for_one_question, keys_name_the_listed,
     listed_requests_look_keys_up_by_their_names,
 };
 pub use reads::Reads;

@@ -18,7 +18,7 @@ use ent_values::{DataType, Text};
 
 /// A place of a listed request.
 #[derive(Clone, Copy, PartialEq, Eq)]
-pub enum Place {
+pub enum NamePlace {
     Person,
     Action,
     Resource,
@@ -30,7 +30,7 @@ pub enum Readers {
     /// Each of them.
     Every,
     /// Those that have the key's entity as their name at a place.
-    Named(Place),
+    Named(NamePlace),
     /// None of them.
     Nobody,
 }
@@ -71,7 +71,7 @@ impl Readers {
     }
 }
 
-impl Place {
+impl NamePlace {
     /// The name at a place, of three.
     ///
     /// Its contract is an equation.
@@ -79,9 +79,9 @@ impl Place {
         ensures { result.now ≡ name_at self person.now action.now resource.now }
     {
         match self {
-            Place::Person => person,
-            Place::Action => action,
-            Place::Resource => resource,
+            NamePlace::Person => person,
+            NamePlace::Action => action,
+            NamePlace::Resource => resource,
         }
     }
 }
@@ -105,11 +105,11 @@ fn readers_in(category: &str) -> Readers
     ensures { result ≡ readers.readers_in category.now }
 {
     if category == ACCESS_SUBJECT {
-        Readers::Named(Place::Person)
+        Readers::Named(NamePlace::Person)
     } else if category == RESOURCE {
-        Readers::Named(Place::Resource)
+        Readers::Named(NamePlace::Resource)
     } else if category == ACTION {
-        Readers::Named(Place::Action)
+        Readers::Named(NamePlace::Action)
     } else {
         Readers::Nobody
     }

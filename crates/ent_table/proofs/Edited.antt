@@ -4,7 +4,7 @@ use Rattle.ent_cells.specs.Cell.{Kept, answers_in, unlike_count}
 use Rattle.ent_finder.specs.Slots.{document_count}
 use Rattle.ent_log.specs.Entries.{entries_since}
 use Rattle.ent_log.specs.Tables.{IsSameLog, room_of}
-use Rattle.ent_table.specs.declared.review_parts.Parts.{Parts}
+use Rattle.ent_table.specs.declared.review_parts.ReviewParts.{ReviewParts}
 use Rattle.ent_table.specs.proofs_only.Change.{Stays}
 use Rattle.ent_table.specs.Difference.{changes}
 use Rattle.ent_table.specs.Limits.{IsWithinGreatest}
@@ -20,7 +20,7 @@ unlike_changes s t old new names was is = (λ i. unlike_count (fresh_answers s o
 
 module _ {E A P : Type 0} where
   -- where state, cells, count of documents and what is logged are as before, the cells are right as before
-  pub fresh_again : (old new : Parts E A P) → IsFresh old → new.table.cells.kept ≡ old.table.cells.kept → new.documents ≡ old.documents
+  pub fresh_again : (old new : ReviewParts E A P) → IsFresh old → new.table.cells.kept ≡ old.table.cells.kept → new.documents ≡ old.documents
       → IsSameLog old.log new.log → room_of old.log ≤ room_of new.log → Stays old new → IsFresh new
   fresh_again old new is cells documents log grows same = record {
     cells = cells ∙ is.cells ∙ ap (λ (u : State). fresh_cells u) (sym same);

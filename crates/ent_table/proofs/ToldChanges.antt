@@ -18,7 +18,7 @@ use Rattle.ent_request.specs.declared.answer.Answer.{Answer}
 use Rattle.ent_log.specs.Difference.{HasAnswers, IsDifference}
 use Rattle.ent_log.specs.Difference as log
 use Rattle.ent_log.specs.Maps.{map_difference}
-use Rattle.ent_log.specs.declared.change.Change.{Change as Logged}
+use Rattle.ent_log.specs.declared.change.LoggedChange.{LoggedChange as Logged}
 use Rattle.ent_log.proofs.MapDifference.{map_difference-difference}
 use Rattle.ent_table.specs.AnswerMap.{AnswerMap, answers_of}
 use Rattle.ent_table.specs.Difference.{same_optional}

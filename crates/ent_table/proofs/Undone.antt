@@ -3,7 +3,7 @@ use Rattle.std.proofs.Common.{◌≡◌, ◌<◌, List, length, refl, ap, subst,
 use Rattle.ent_finder.specs.Rows.{Source}
 use Rattle.ent_eval.specs.declared.exchange.Exchange.{Exchange}
 use Rattle.ent_eval.specs.declared.exchange.Exchange.TheVariants.{Document, Row, Root, Environment}
-use Rattle.ent_table.specs.declared.review_parts.Parts.{Parts}
+use Rattle.ent_table.specs.declared.review_parts.ReviewParts.{ReviewParts}
 use Rattle.ent_table.specs.proofs_only.Exchange.{IsMade, IsWithin, OnlyHeld, taken, with_exchange}
 use Rattle.ent_table.specs.Fresh.{point_of, state_of}
 use Rattle.ent_table.specs.State.{State}
@@ -21,20 +21,20 @@ exchange-undone s ss (Environment environment) are h = refl
 
 module _ {E A P : Type 0} where
   -- of two changes each left all but what is held
-  pub held_twice : (old between new : Parts E A P) → OnlyHeld old between → OnlyHeld between new → OnlyHeld old new
+  pub held_twice : (old between new : ReviewParts E A P) → OnlyHeld old between → OnlyHeld between new → OnlyHeld old new
   held_twice old between new one two =
       two
-      ∙ ap (λ (v : Parts E A P). record v {
+      ∙ ap (λ (v : ReviewParts E A P). record v {
         table = record v.table { cells = record v.table.cells { evaluator = new.table.cells.evaluator } };
       }) one
 
 module _ {E A P : Type 0} where
   -- where what was exchanged is exchanged with what stood there, the state is as before both
-  pub taken_back : (old between new : Parts E A P) (x back : Exchange) → IsWithin (state_of old) x → state_of between ≡ with_exchange (state_of old) x → back ≡ taken (state_of old) x
+  pub taken_back : (old between new : ReviewParts E A P) (x back : Exchange) → IsWithin (state_of old) x → state_of between ≡ with_exchange (state_of old) x → back ≡ taken (state_of old) x
       → state_of new ≡ with_exchange (state_of between) back → state_of new ≡ state_of old
   taken_back old between new x back h there is again =
       again ∙ (λ i. with_exchange (there i) (is i)) ∙ exchange-undone (state_of old) (point_of old).sources x refl h
 
-  pub made_back : (before now new : Parts E A P) (back : Exchange) → IsMade before now back → state_of new ≡ with_exchange (state_of now) back
+  pub made_back : (before now new : ReviewParts E A P) (back : Exchange) → IsMade before now back → state_of new ≡ with_exchange (state_of now) back
       → state_of new ≡ state_of before
   made_back before now new back made again = taken_back before now new made.0 back made.1 made.2 made.3 again

@@ -10,7 +10,7 @@ use Rattle.ent_request.specs.Same.{same_answer}
 use Rattle.ent_log.specs.Entries.{answers_of as logged_answers, entries_since}
 use Rattle.ent_log.specs.Maps.{map_before, map_difference}
 use Rattle.ent_log.specs.Tables.{IsClosed, KeepsTables as KeepsBefore}
-use Rattle.ent_log.specs.declared.change.Change.{Change as Logged}
+use Rattle.ent_log.specs.declared.change.LoggedChange.{LoggedChange as Logged}
 use Rattle.ent_log.specs.declared.entry.OldAnswer.{OldAnswer}
 use Rattle.ent_log.specs.declared.log.Log.{Log}
 use Rattle.ent_table.specs.declared.since.Change.{Change}

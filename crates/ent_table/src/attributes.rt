@@ -12,7 +12,7 @@ ghost use Rattle.ent_table.specs.Fresh.{IsFresh, state_of};
 ghost use Rattle.ent_table.specs.Step.{attribute_set, is_bad_row, is_reserved, is_source};
 
 use crate::edit::{Accepted, EditFault};
-use crate::review_parts::Parts;
+use crate::review_parts::ReviewParts;
 use ent_eval::{Evaluates, Exchange, id_attribute};
 use ent_finder::{Attributes, RowKey};
 use ent_policy::is_bad_name;
@@ -60,7 +60,7 @@ fn is_bad_row(key: &RowKey, values: &[Value]) -> bool
         || !are_of(key.datatype, values)
 }
 
-impl<E: Evaluates> Parts<E> {
+impl<E: Evaluates> ReviewParts<E> {
     pub(crate) fn set_attribute(
         &mut self,
         number: usize,

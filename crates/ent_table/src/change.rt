@@ -6,11 +6,11 @@ ghost use Rattle.ent_table.specs.proofs_only.Exchange.{CountsSame, IsMade, IsThe
 ghost use Rattle.ent_table.specs.proofs_only.Exchange.{taken, with_exchange};
 ghost use Rattle.ent_table.specs.Fresh.{state_of};
 
-use crate::review_parts::Parts;
+use crate::review_parts::ReviewParts;
 use ent_eval::{Evaluates, Exchange};
 use std::alloc::AllocError;
 
-impl<E: Evaluates> Parts<E> {
+impl<E: Evaluates> ReviewParts<E> {
     /// Exchanges one thing of what is held. Once this is done, it can be done again without memory, and then all is as
     /// before. It evaluates nothing.
     pub(crate) fn exchange(&mut self, exchange: &mut Exchange) -> Result<(), AllocError>

@@ -13,7 +13,7 @@ ghost use Rattle.ent_table.specs.proofs_only.Look.{AreChanged, IsSeen, asks, env
 ghost use Rattle.ent_table.specs.proofs_only.Look.{finds_another, found_by, is_another, keys_in, look_of, which};
 ghost use Rattle.ent_table.specs.Fresh.{state_of};
 
-use crate::review_parts::Parts;
+use crate::review_parts::ReviewParts;
 use ent_eval::{Evaluates, Exchange, ReadKey};
 use ent_finder::{AttrKey, Attributes, Policies};
 use ent_policy::{Document, Reference};
@@ -106,7 +106,7 @@ fn document(exchange: &Exchange) -> Option<&Document>
     }
 }
 
-impl<E: Evaluates> Parts<E> {
+impl<E: Evaluates> ReviewParts<E> {
     /// Makes an exchange, which then has what was there before, and tells which of the keys that cells read give
     /// another for it. After a refusal all is as before. It evaluates nothing.
     pub(crate) fn exchange_and_tell(

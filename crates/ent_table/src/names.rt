@@ -7,12 +7,12 @@ ghost use Rattle.ent_table.specs.Step.{name_added, name_dropped};
 ghost use Rattle.ent_table.specs.proofs_only.Names.{Exceeds};
 
 use crate::edit::{Accepted, EditFault, List};
-use crate::review_parts::Parts;
+use crate::review_parts::ReviewParts;
 use ent_eval::Evaluates;
 use ent_policy::is_bad_name;
 use ent_values::Text;
 
-impl<E: Evaluates> Parts<E> {
+impl<E: Evaluates> ReviewParts<E> {
     /// Puts a name last in its list. The other answers stay, so only the requests of the name are evaluated.
     pub(crate) fn add_name(&mut self, list: List, name: Text) -> Result<Accepted, EditFault>
         requires { IsFresh self.old }

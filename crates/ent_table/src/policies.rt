@@ -8,12 +8,12 @@ ghost use Rattle.ent_table.specs.Step.{is_module, module_holds, module_lacks, po
 ghost use Rattle.ent_table.specs.Step.{policy_replaced, policy_withdrawn};
 
 use crate::edit::{Accepted, EditFault};
-use crate::review_parts::Parts;
+use crate::review_parts::ReviewParts;
 use ent_eval::{Evaluates, Exchange};
 use ent_finder::Policies;
 use ent_policy::{DocKey, Document, is_bad_name};
 
-impl<E: Evaluates> Parts<E> {
+impl<E: Evaluates> ReviewParts<E> {
     pub(crate) fn add_policy(
         &mut self,
         number: usize,

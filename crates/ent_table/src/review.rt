@@ -17,7 +17,7 @@ use crate::cells::Cells;
 use crate::edit::{Accepted, Edit, EditFault, List};
 use crate::judged::Judged;
 use crate::limits::Limits;
-use crate::review_parts::Parts;
+use crate::review_parts::ReviewParts;
 use crate::table::Table;
 use ent_eval::{Answer, Environment, Evaluates, Exchange, Pdp};
 use ent_finder::Policies;
@@ -33,7 +33,7 @@ pub const LAST_SERIAL: u64 = 9_223_372_036_854_775_808;
 /// edit.
 #[derive(Drop)]
 pub struct Review<E: Evaluates> {
-    pub(crate) parts: Parts<E>,
+    pub(crate) parts: ReviewParts<E>,
 }
 
 impl<E: Evaluates> Model for Review<E> {
@@ -65,7 +65,7 @@ impl<E: Evaluates> Review<E> {
     {
         let documents = pdp.policies().document_count();
         Review {
-            parts: Parts {
+            parts: ReviewParts {
                 alloc,
                 limits,
                 table: Table::new(alloc, E::of(alloc, pdp)),

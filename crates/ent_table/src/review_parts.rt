@@ -20,7 +20,7 @@ use std::alloc::Global;
 
 /// The parts of a review. Between the phases of an edit they don't fit each other, so they are no review then.
 #[derive(Drop)]
-pub(crate) struct Parts<E: Evaluates> {
+pub(crate) struct ReviewParts<E: Evaluates> {
     pub(crate) alloc: Global,
     pub(crate) limits: Limits,
     // What is held stands in its evaluator.
@@ -31,7 +31,7 @@ pub(crate) struct Parts<E: Evaluates> {
     pub(crate) documents: u128,
 }
 
-impl<E: Evaluates> Parts<E> {
+impl<E: Evaluates> ReviewParts<E> {
     /// The decision point.
     pub(crate) fn pdp(&self) -> &Pdp<E::Attributes, E::Policies>
         ensures { result.now ≡ point_of self.now }

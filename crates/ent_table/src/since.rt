@@ -6,7 +6,7 @@ ghost use Rattle.ent_table.specs.Tables.{AreTheDifference, LeavesTables, change_
 use crate::review::Review;
 use ent_cells::Who;
 use ent_eval::{Answer, Evaluates};
-use ent_log::{Change as Logged, Present};
+use ent_log::{LoggedChange as Logged, Present};
 use ent_values::{Items, Shared, Text};
 use std::alloc::{AllocError, Global};
 

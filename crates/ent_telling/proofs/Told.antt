@@ -21,7 +21,7 @@ use Rattle.ent_finder.specs.declared.row.RowKey.{RowKey}
 use Rattle.ent_json.specs.Members.{only_member}
 use Rattle.ent_json.specs.Text.{tokens_of}
 use Rattle.ent_json.proofs.TextLemmas.{printed}
-use Rattle.lint_reach.specs.declared.place.Place.{Place}
+use Rattle.lint_reach.specs.declared.place.DocPlace.{DocPlace}
 use Rattle.ent_telling.specs.Attributes.{is_of_entity, module_rows, row_data}
 use Rattle.ent_request.specs.Held.{Held}
 use Rattle.lint_reach.specs.Reached.{has_place, is_reached}
@@ -31,7 +31,7 @@ use Rattle.ent_telling.proofs.Walks.{listed}
 
 -- ---- documents
 
-module _ (reached : Place → Bool) (id : Option (List ℕ)) (number : ℕ) where
+module _ (reached : DocPlace → Bool) (id : Option (List ℕ)) (number : ℕ) where
   abbrev told : DocKey × Tree → Data
   told e = document_data reached (is_some id) (number, e.0, e.1)
 
@@ -103,7 +103,7 @@ reply_tokens name ds =
     ∙ ap (λ ts. token.begin_object ∷ token.key name ∷ token.begin_array ∷ ts) (append_assoc (each_tokens ds) (token.end_array ∷ []) (token.end_object ∷ []))
 
 -- what is told by the places that were found is told by whether the root leads there
-pub reached_told : (held : Held) (id : Option (List ℕ)) (places : List Place) → ((place : Place) → has_place place places ≡ is_reached held.modules held.root place)
+pub reached_told : (held : Held) (id : Option (List ℕ)) (places : List DocPlace) → ((place : DocPlace) → has_place place places ≡ is_reached held.modules held.root place)
     → only_member (codes "documents") (json.array (items_of (map (document_data (λ p. has_place p places) (is_some id)) (documents id held.modules))))
     ≡ documents_data held id
 reached_told held id places same =

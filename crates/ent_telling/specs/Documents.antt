@@ -16,7 +16,7 @@ use Rattle.ent_json.specs.Members.{only_member, optional}
 use Rattle.ent_polform.specs.Written.{written}
 use Rattle.ent_request.specs.Held.{Held}
 use Rattle.lint_reach.specs.Reached.{is_reached}
-use Rattle.lint_reach.specs.declared.place.Place.{Place}
+use Rattle.lint_reach.specs.declared.place.DocPlace.{DocPlace}
 
 -- the documents of a module that have an id, or all of them, with the module's number, in the order of their keys
 abbrev pub module_documents : Option (List ℕ) → ℕ × Docs → List (ℕ × DocKey × Tree)
@@ -27,7 +27,7 @@ abbrev pub documents : Option (List ℕ) → List Docs → List (ℕ × DocKey �
 documents id modules = flat_map (module_documents id) (enumerate_from 0 modules)
 
 -- one of them, with the document itself or without, and with whether the root leads to it
-abbrev pub document_data : (Place → Bool) → Bool → ℕ × DocKey × Tree → Data
+abbrev pub document_data : (DocPlace → Bool) → Bool → ℕ × DocKey × Tree → Data
 document_data reached whole d = json.object (
     optional (codes "document") (if whole then Some (written d.2) else None)
     (json.member (codes "id") (json.string d.1.id)

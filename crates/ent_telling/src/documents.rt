@@ -18,7 +18,7 @@ use ent_finder::{Attributes, DocSlot, Policies};
 use ent_json::{JsonText, write_text};
 use ent_polform::write_document_text;
 use ent_policy::{DocKey, Document};
-use lint_reach::{Place, Reached, reached_places};
+use lint_reach::{DocPlace, Reached, reached_places};
 use std::alloc::{AllocError, Global};
 
 /// Whether a document is asked for, by its id, or since all are.
@@ -54,7 +54,7 @@ fn write_document(
     out: &mut JsonText,
     reached: &Reached,
     whole: bool,
-    place: &Place,
+    place: &DocPlace,
     document: &Document,
 ) -> Result<(), AllocError>
     ensures { OnOk result (out.new ≡ out.old
@@ -91,7 +91,7 @@ fn write_slot(
     if !is_asked(id, &slot.key) {
         return Ok(());
     }
-    let place = Place {
+    let place = DocPlace {
         number,
         key: slot.key.copy(alloc)?,
     };

@@ -7,7 +7,7 @@ ghost use Rattle.ent_request.specs.Questions.{AreNumbers, BeginsWith, at_numbers
 ghost use Rattle.ent_request.specs.Sources.{asked_of, keys_of};
 ghost use Rattle.ent_request.specs.declared.question.Question.TheVariants.{Of, Ref, Root};
 
-use crate::marked::Marked;
+use crate::marked::MarkedNumbers;
 use ent_policy::{Designator, Reference};
 use ent_request::{
     Asked, CURRENT_DATE, CURRENT_DATE_TIME, CURRENT_TIME, Question, Questions, ReadKey, Reads,
@@ -37,7 +37,7 @@ const MOST_KEPT: usize = 4096;
 #[derive(Drop)]
 pub(crate) struct Asking {
     questions: IndexSet<Question>,
-    numbers: Marked,
+    numbers: MarkedNumbers,
     places: Vec<usize>,
     likely: Vec<u32>,
 }
@@ -61,7 +61,7 @@ impl Asking {
     {
         Asking {
             questions: IndexSet::new(alloc),
-            numbers: Marked::new(alloc),
+            numbers: MarkedNumbers::new(alloc),
             places: Vec::new(alloc),
             likely: Vec::new(alloc),
         }

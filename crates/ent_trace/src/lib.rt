@@ -11,6 +11,6 @@ mod path;
 mod paths;
 mod trail;
 
-pub use marked::Marked;
+pub use marked::MarkedNumbers;
 pub use notes::{Notebook, Notes};
 pub use path::Path;

@@ -11,13 +11,13 @@ use std::marker::Model;
 /// Numbers, each once, in the order in which they were noted first since the last beginning. For each number there is a
 /// mark, the stamp of the beginning behind which it was noted last: so one comparison tells whether a number is there.
 #[derive(Drop)]
-pub struct Marked {
+pub struct MarkedNumbers {
     numbers: Vec<usize>,
     marks: Vec<u64>,
     stamp: u64,
 }
 
-impl Model for Marked {
+impl Model for MarkedNumbers {
     ghost use Rattle.std.specs.Prelude.{List, ℕ};
     ghost use Rattle.ent_trace.specs.proofs_only.Marks.{AreMarked};
 
@@ -28,14 +28,14 @@ impl Model for Marked {
     ghost invariant = { λ m. AreMarked m.stamp m.marks.items m.numbers.items };
 }
 
-impl Marked {
+impl MarkedNumbers {
     /// No numbers, for which nothing is allocated.
     ///
     /// Its contract is an equation.
-    pub fn new(alloc: Global) -> Marked
+    pub fn new(alloc: Global) -> MarkedNumbers
         ensures { result ≡ [] }
     {
-        Marked {
+        MarkedNumbers {
             numbers: Vec::new(alloc),
             marks: Vec::new(alloc),
             stamp: 1,
@@ -49,7 +49,7 @@ impl Marked {
         ensures { self.new ≡ [] }
     {
         match self.stamp.checked_add(1) {
-            None => *self = Marked::new(alloc),
+            None => *self = MarkedNumbers::new(alloc),
             Some(next) => {
                 self.numbers.clear();
                 self.stamp = next;

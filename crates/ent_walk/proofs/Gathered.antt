@@ -6,7 +6,7 @@ use Rattle.std.proofs.lemmas.List.{append-nil}
 use Rattle.std.proofs.lemmas.List.Folds.{list_any-append}
 use Rattle.ent_combine.specs.Taken.{Taken}
 use Rattle.ent_combine.specs.declared.outcome.RuleAlg.{RuleAlg}
-use Rattle.ent_walk.specs.declared.told.Told.{Told}
+use Rattle.ent_walk.specs.declared.told.ToldChildren.{ToldChildren}
 use Rattle.ent_walk.specs.declared.gather.Gathering.{Gathering}
 use Rattle.ent_combine.specs.Combine.{HasTaken, is_permit, is_deny}
 use Rattle.ent_combine.specs.declared.outcome.Outcome.{Outcome}
@@ -30,11 +30,11 @@ lists_of-more list p (k ∷ js) j =
     ap (λ ws. (if p k.decision then list k else []) ++ ws) (lists_of-more list p js j) ∙ sym (append_assoc (if p k.decision then list k else []) (lists_of list p js) (if p j.decision then list j else []))
 
 -- what children told, with one child more that has the decision, or another one
-abbrev pub told_next : Bool → Told → Answer → Told
+abbrev pub told_next : Bool → ToldChildren → Answer → ToldChildren
 told_next true told j = told_more told (record { any = true; why = j.why; obligations = j.obligations; advice = j.advice })
 told_next false told j = told
 
-told_at : (b : Bool) (any : Bool) (told : Told) (j : Answer) → any ≡ (told.any || (b || false)) → record {
+told_at : (b : Bool) (any : Bool) (told : ToldChildren) (j : Answer) → any ≡ (told.any || (b || false)) → record {
   any = any;
   why = with_list (λ (a : Answer). a.why) j b told.why;
   obligations = with_list (λ (a : Answer). a.obligations) j b told.obligations;
@@ -78,7 +78,7 @@ status_stays None s = refl
 status_stays (Some first) s = refl
 
 -- with one more child, given what each part of the gathering became
-pub gathers : (algorithm : RuleAlg) (g : Gathering) (js : List Answer) (j : Answer) (combiner : Taken) (status : Option Status) (permitted denied : Told)
+pub gathers : (algorithm : RuleAlg) (g : Gathering) (js : List Answer) (j : Answer) (combiner : Taken) (status : Option Status) (permitted denied : ToldChildren)
     → HasGathered algorithm g js → combiner.algorithm ≡ g.combiner.algorithm → ((xs : List Outcome) → HasTaken g.combiner xs → HasTaken combiner (xs ++ j.decision ∷ []))
     → status ≡ status_with g.status j.decision j.status → permitted ≡ told_next (is_permit j.decision) g.permitted j → denied ≡ told_next (is_deny j.decision) g.denied j
     → HasGathered algorithm (record { combiner = combiner; status = status; permitted = permitted; denied = denied }) (js ++ j ∷ [])
@@ -103,9 +103,9 @@ isn't_deny NotApplicable not = refl
 isn't_deny (Ind kind) not = refl
 
 -- what is told stays where the outcome is another one
-pub stays : (b : Bool) (told : Told) (j : Answer) → b ≡ false → told ≡ told_next b told j
+pub stays : (b : Bool) (told : ToldChildren) (j : Answer) → b ≡ false → told ≡ told_next b told j
 stays b told j is = rw is refl
 
 -- and grows where it is that one
-pub grows : (b : Bool) (told next : Told) (j : Answer) → b ≡ true → next ≡ told_next true told j → next ≡ told_next b told j
+pub grows : (b : Bool) (told next : ToldChildren) (j : Answer) → b ≡ true → next ≡ told_next true told j → next ≡ told_next b told j
 grows b told next j is e = rw is e

@@ -14,7 +14,7 @@ use Rattle.ent_request.specs.declared.answer.Status.{Status}
 use Rattle.ent_request.specs.declared.answer.Status.TheVariants.{Okay, ProcessingError}
 use Rattle.ent_request.specs.declared.answer.WhyEntry.{WhyEntry}
 use Rattle.ent_walk.specs.declared.target.Targeted.{Targeted}
-use Rattle.ent_walk.specs.declared.told.Told.{Told}
+use Rattle.ent_walk.specs.declared.told.ToldChildren.{ToldChildren}
 use Rattle.ent_walk.specs.declared.target.Targeted.TheVariants.{Match, NoMatch, Indeterminate}
 use Rattle.ent_request.specs.Plain.{nothing, indeterminate}
 
@@ -48,7 +48,7 @@ lists_of list p [] = []
 lists_of list p (a ∷ others) = (if p a.decision then list a else []) ++ lists_of list p others
 
 -- what the children with a decision tell of it, and whether there is one
-abbrev pub told_by : (Outcome → Bool) → List Answer → Told
+abbrev pub told_by : (Outcome → Bool) → List Answer → ToldChildren
 told_by p answers = record {
   any = list_any (λ (a : Answer). p a.decision) answers;
   why = lists_of (λ (a : Answer). a.why) p answers;
@@ -67,7 +67,7 @@ abbrev pub default_why : List DocKey → RuleAlg → Bool → List WhyEntry
 default_why here algorithm any = if has_default algorithm && not any then record { path = here; rule = None } ∷ [] else []
 
 -- a decision, with what children tell of it, followed by the element's own
-abbrev pub decided_by : List DocKey → RuleAlg → Outcome → Told → Answer
+abbrev pub decided_by : List DocKey → RuleAlg → Outcome → ToldChildren → Answer
 decided_by here algorithm decision told =
     record { decision = decision; status = Okay; why = told.why ++ default_why here algorithm told.any; obligations = told.obligations; advice = told.advice }
 

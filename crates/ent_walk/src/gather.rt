@@ -7,7 +7,7 @@ ghost use Rattle.ent_request.specs.Plain.{nothing};
 ghost use Rattle.ent_walk.specs.proofs_only.Judged.{or_nothing};
 ghost use Rattle.ent_request.specs.declared.answer.Answer.{Answer};
 
-use crate::told::Told;
+use crate::told::ToldChildren;
 use ent_combine::{Combiner, Outcome, Progress, RuleAlg};
 use ent_request::{Answer, Status};
 use ent_trace::{Notes, Path};
@@ -19,8 +19,8 @@ use std::alloc::{AllocError, Global};
 pub struct Gathering {
     pub combiner: Combiner,
     pub status: Option<Status>,
-    pub permitted: Told,
-    pub denied: Told,
+    pub permitted: ToldChildren,
+    pub denied: ToldChildren,
 }
 
 /// No children.
@@ -32,8 +32,8 @@ pub fn no_children(alloc: Global, algorithm: RuleAlg) -> Gathering
     Gathering {
         combiner: Combiner::new(algorithm),
         status: None,
-        permitted: Told::nothing(alloc),
-        denied: Told::nothing(alloc),
+        permitted: ToldChildren::nothing(alloc),
+        denied: ToldChildren::nothing(alloc),
     }
 }
 
@@ -73,7 +73,7 @@ impl Gathering {
             obligations,
             advice,
         } = answer;
-        let told = Told {
+        let told = ToldChildren {
             any: true,
             why,
             obligations,

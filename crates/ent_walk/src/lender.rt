@@ -16,12 +16,12 @@ const MOST_LENT: usize = 32;
 pub(crate) struct Lender<'a, L: LookUps> {
     held: &'a L,
     request: &'a Request,
-    found: Vec<Found<'a>>,
+    found: Vec<FoundBag<'a>>,
 }
 
 // What was asked for, and the bag that was found.
 #[derive(Drop)]
-struct Found<'a> {
+struct FoundBag<'a> {
     asked: Asked,
     bag: LentBag<'a>,
 }
@@ -85,7 +85,7 @@ impl<'a, L: LookUps> Lender<'a, L> {
         let bag = designated(alloc, self.held, self.request, designator)?;
         if self.found.len() < MOST_LENT {
             let asked = Asked::of(alloc, designator)?;
-            self.found.push(Found {
+            self.found.push(FoundBag {
                 asked,
                 bag: bag.copy()?,
             })?;

@@ -12,7 +12,7 @@ ghost use Rattle.ent_trace.specs.proofs_only.Path.{keys_of};
 ghost use Rattle.ent_request.specs.Part.{settled};
 
 use crate::gather::no_children;
-use crate::rule::Within;
+use crate::rule::RulePlace;
 use crate::target::Targeted;
 use crate::walk::Walk;
 use ent_combine::{Outcome, Progress, RuleAlg, under_indeterminate_target};
@@ -120,7 +120,7 @@ impl<'a, L: LookUps> Walk<'a, L> {
             id: &policy.id,
             version: &policy.version,
         };
-        let within = Within {
+        let within = RulePlace {
             definitions: policy.variables.as_slice(),
             path: &here,
         };
@@ -130,7 +130,7 @@ impl<'a, L: LookUps> Walk<'a, L> {
     // Rules, up to the first that fixes the decision.
     fn rules(
         &mut self,
-        within: Within<'_>,
+        within: RulePlace<'_>,
         algorithm: RuleAlg,
         rules: &'a [Rule],
     ) -> Result<Option<Answer>, AllocError>

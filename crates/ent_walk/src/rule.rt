@@ -25,7 +25,7 @@ use std::alloc::AllocError;
 
 // Where a rule stands: the definitions of its policy, and the path that leads to this.
 #[derive(Clone, Copy)]
-pub(crate) struct Within<'b> {
+pub(crate) struct RulePlace<'b> {
     pub(crate) definitions: &'b [VariableDefinition],
     pub(crate) path: &'b Path<'b>,
 }
@@ -36,7 +36,7 @@ impl<'a, L: LookUps> Walk<'a, L> {
     pub(crate) fn next_rule(
         &mut self,
         gathering: &mut Gathering,
-        within: Within<'_>,
+        within: RulePlace<'_>,
         rule: &'a Rule,
     ) -> Result<Progress, AllocError>
         requires typed { rule_is_typed within.definitions.now rule.now ≡ true }
@@ -63,7 +63,7 @@ impl<'a, L: LookUps> Walk<'a, L> {
     fn in_rule(
         &mut self,
         gathering: &mut Gathering,
-        within: Within<'_>,
+        within: RulePlace<'_>,
         rule: &'a Rule,
     ) -> Result<Progress, AllocError>
         requires typed { rule_is_typed within.definitions.now rule.now ≡ true }
@@ -90,7 +90,7 @@ impl<'a, L: LookUps> Walk<'a, L> {
     #[tactic(auto, using(crate::proofs::Going::noting_both))]
     fn rule_after(
         &mut self,
-        within: Within<'_>,
+        within: RulePlace<'_>,
         rule: &'a Rule,
         targeted: Targeted,
     ) -> Result<Option<Answer>, AllocError>

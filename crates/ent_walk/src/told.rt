@@ -14,7 +14,7 @@ use std::alloc::{AllocError, Global};
 
 /// What the children with one decision tell of it, in document order.
 #[derive(Drop)]
-pub struct Told {
+pub struct ToldChildren {
     /// Whether there is such a child.
     pub any: bool,
     pub why: Items<WhyEntry>,
@@ -22,14 +22,14 @@ pub struct Told {
     pub advice: Items<Given>,
 }
 
-impl Told {
+impl ToldChildren {
     /// No children.
     ///
     /// Its contract is an equation.
-    pub fn nothing(alloc: Global) -> Told
+    pub fn nothing(alloc: Global) -> ToldChildren
         ensures { result ≡ record { any = false; why = []; obligations = []; advice = [] } }
     {
-        Told {
+        ToldChildren {
             any: false,
             why: Items::new(alloc),
             obligations: Items::new(alloc),
@@ -40,7 +40,7 @@ impl Told {
     /// One child more. Its lists are moved, not copied.
     ///
     /// Its contract is an equation but for memory.
-    pub fn add(&mut self, more: Told) -> Result<(), AllocError>
+    pub fn add(&mut self, more: ToldChildren) -> Result<(), AllocError>
         ensures { OnOk result (self.new ≡ told_more self.old more) }
     {
         self.any = true;
@@ -58,11 +58,11 @@ impl Told {
         notes: &mut Notes,
         here: &Path<'_>,
         algorithm: RuleAlg,
-    ) -> Result<Told, AllocError>
+    ) -> Result<ToldChildren, AllocError>
         ensures told { IfOk result (λ t. t ≡ told_at (keys_of here.now) algorithm self) }
         ensures notes { notes.new ≡ notes.old }
     {
-        let Told {
+        let ToldChildren {
             any,
             mut why,
             obligations,
@@ -75,7 +75,7 @@ impl Told {
             };
             why.append(Items::of_one(alloc, entry)?)?;
         }
-        Ok(Told {
+        Ok(ToldChildren {
             any,
             why,
             obligations,

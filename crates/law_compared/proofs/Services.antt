@@ -40,7 +40,7 @@ use Rattle.ent_line.specs.declared.refusal.Refusal.TheVariants.{Memory}
 use Rattle.ent_line.proofs.LineLemmas.{split_once}
 use Rattle.law_restart.proofs.Lines.{texts_are_lines}
 use Rattle.law_restart.proofs.Texts.{texts_read_back}
-use Rattle.script_files.specs.declared.session.Step.{Step}
+use Rattle.script_files.specs.declared.session.SentLine.{SentLine}
 use Rattle.ent_program.specs.Comparing.{behind, is_newline, is_wanting}
 use Rattle.ent_program.specs.Differing.{base_of, is_state, table_line}
 use Rattle.ent_program.specs.Starting.{categories, start_of}
@@ -106,7 +106,7 @@ run_ends {W} H w (line ∷ lines) last (a ∷ answers) v (mid, step, r) =
     }
 
 -- what stands behind the replies to steps is the last one
-replies_behind : (w v : World) (steps : List Step) (answers : List Answer) (last : List ℕ) → IsHeadline → Run Answers w (lines_in steps) answers v
+replies_behind : (w v : World) (steps : List SentLine) (answers : List Answer) (last : List ℕ) → IsHeadline → Run Answers w (lines_in steps) answers v
     → behind steps (flat_map line_of answers ++ last) ≡ last
 replies_behind w v [] [] last h r = refl
 replies_behind w v [] (a ∷ answers) last h r = absurd r
@@ -190,16 +190,16 @@ answer_is w v a reply one is sure (n, inl told) =
 
 -- ---- a table behind lines
 
-sent_is : (steps : List Step) → sent steps ≡ flat_map ended (lines_in steps)
+sent_is : (steps : List SentLine) → sent steps ≡ flat_map ended (lines_in steps)
 sent_is [] = refl
 sent_is (step ∷ steps) =
-    flat_map-cons (λ (x : Step). ended x.line) step steps ∙ ap (λ x. ended step.line ++ x) (sent_is steps) ∙ sym (flat_map-cons ended step.line (lines_in steps))
+    flat_map-cons (λ (x : SentLine). ended x.line) step steps ∙ ap (λ x. ended step.line ++ x) (sent_is steps) ∙ sym (flat_map-cons ended step.line (lines_in steps))
 
 one_more : {A : Type 0} (f : A → List ℕ) (xs : List A) (x : A) → flat_map f (xs ++ x ∷ []) ≡ flat_map f xs ++ f x
 one_more f xs x =
     flat_map-append f xs (x ∷ []) ∙ ap (λ y. flat_map f xs ++ y) (flat_map-cons f x [] ∙ append-nil (f x))
 
-split_of : (steps : List Step) → AreLines steps → Splits (sent steps ++ table_line) (lines_in steps ++ table_asked ∷ []) []
+split_of : (steps : List SentLine) → AreLines steps → Splits (sent steps ++ table_line) (lines_in steps ++ table_asked ∷ []) []
 split_of steps lines = record {
   whole = ap (λ x. x ++ table_line) (sent_is steps) ∙ sym (one_more ended (lines_in steps) table_asked) ∙ sym (append-nil (flat_map ended (lines_in steps ++ table_asked ∷ [])));
   each = All-append NoNewline (lines_in steps) (table_asked ∷ []) lines (All-cons NoNewline table_asked [] no_newline (All-nil NoNewline));
@@ -248,10 +248,10 @@ tables_are_replies limits steps reply lines table = by table.run
 
 -- ---- what is written of two
 
-base_lines : (state changes : List Step) → AreLines state → AreLines changes → AreLines (base_of state changes ++ changes)
+base_lines : (state changes : List SentLine) → AreLines state → AreLines changes → AreLines (base_of state changes ++ changes)
 base_lines state changes first second = by (is_state changes) where
-  both : (one other : List Step) → AreLines one → AreLines other → AreLines (one ++ other)
-  both one other p q = subst (All NoNewline) (sym (map-append (λ (step : Step). step.line) one other)) (All-append NoNewline (lines_in one) (lines_in other) p q)
+  both : (one other : List SentLine) → AreLines one → AreLines other → AreLines (one ++ other)
+  both one other p q = subst (All NoNewline) (sym (map-append (λ (step : SentLine). step.line) one other)) (All-append NoNewline (lines_in one) (lines_in other) p q)
 
   by : (b : Bool) → AreLines ((cond b [] state) ++ changes)
   by true = second

@@ -8,7 +8,7 @@ use Rattle.ent_line.specs.Lines.{NoNewline}
 use Rattle.ent_line.specs.Replies.{Answer}
 use Rattle.ent_line.specs.Runs.{Run}
 use Rattle.ent_line.specs.Step.{Answers}
-use Rattle.script_files.specs.declared.session.Step.{Step}
+use Rattle.script_files.specs.declared.session.SentLine.{SentLine}
 use Rattle.ent_program.specs.Differing.{IsTableBehind, IsTextOf, TellsDifference, base_of, ended_by}
 use Rattle.ent_program.specs.Limiting.{bounded}
 use Rattle.ent_program.specs.Starting.{start_of}
@@ -20,11 +20,11 @@ use Rattle.law_compared.specs.Difference.{IsDifference}
 use Rattle.law_compared.specs.Laws.{Replies}
 
 -- the lines that are sent in steps
-abbrev pub lines_in : List Step → List (List ℕ)
+abbrev pub lines_in : List SentLine → List (List ℕ)
 lines_in steps = map (λ step. step.line) steps
 
 -- each is one line, as what is read of a file is
-abbrev pub AreLines : List Step → Type 0
+abbrev pub AreLines : List SentLine → Type 0
 AreLines steps = All NoNewline (lines_in steps)
 
 -- a new service within those limits, of two modules of each sort, has come to a world by some lines
@@ -39,7 +39,7 @@ pub record IsTableOf (limits : Limits) (lines : List (List ℕ)) (reply : List �
   pub replies : Replies world reply
 
 abbrev pub TablesAreReplies : Type 0
-TablesAreReplies = (limits : Limits) (steps : List Step) (reply : List ℕ) → AreLines steps → IsTableBehind limits steps reply → IsTableOf limits (lines_in steps) reply
+TablesAreReplies = (limits : Limits) (steps : List SentLine) (reply : List ℕ) → AreLines steps → IsTableBehind limits steps reply → IsTableOf limits (lines_in steps) reply
 
 -- what was written is the difference of the tables of two services, which have come to their worlds by these lines and
 -- by those

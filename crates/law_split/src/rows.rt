@@ -8,7 +8,7 @@ use ent_values::{Items, Text};
 use std::alloc::{AllocError, Global};
 
 /// A row of a report, which is of one person.
-trait Row: Drop {
+trait ReportRow: Drop {
     ghost use Rattle.std.specs.Prelude.{List, ℕ};
 
     ghost person: { Self → List ℕ };
@@ -22,7 +22,7 @@ trait Row: Drop {
         ensures { IfOk result (λ row. row ≡ self.now) };
 }
 
-impl Row for Text {
+impl ReportRow for Text {
     ghost person = { λ row. row };
 
     fn person(&self) -> &str {
@@ -34,7 +34,7 @@ impl Row for Text {
     }
 }
 
-impl Row for (Text, Text, Text) {
+impl ReportRow for (Text, Text, Text) {
     ghost person = { λ row. row.0 };
 
     fn person(&self) -> &str {
@@ -52,7 +52,7 @@ impl Row for (Text, Text, Text) {
 }
 
 /// Puts the rows of a person in one list behind those that were found.
-fn find<R: Row>(
+fn find<R: ReportRow>(
     alloc: Global,
     person: &str,
     rows: &[R],
@@ -70,7 +70,7 @@ fn find<R: Row>(
 }
 
 /// Puts the rows of a person in several lists behind those that were found.
-fn find_in_all<R: Row>(
+fn find_in_all<R: ReportRow>(
     alloc: Global,
     person: &str,
     lists: &[Items<R>],
@@ -86,7 +86,11 @@ fn find_in_all<R: Row>(
 }
 
 /// The rows of several lists in the order of people.
-fn merge<R: Row>(alloc: Global, order: &[Text], lists: &[Items<R>]) -> Result<Items<R>, AllocError>
+fn merge<R: ReportRow>(
+    alloc: Global,
+    order: &[Text],
+    lists: &[Items<R>],
+) -> Result<Items<R>, AllocError>
     ensures { IfOk result (λ rows. rows ≡ merged R.person order.now (flat_map (λ list. list) lists.now)) }
 {
     let mut found = Vec::new(alloc);

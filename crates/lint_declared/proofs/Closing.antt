@@ -6,15 +6,15 @@ use Rattle.std.specs.Prelude.{bytes_eq}
 use Rattle.ent_values.specs.declared.value.Value.{Value}
 use Rattle.ent_values.specs.declared.value.Value.TheVariants as values
 use Rattle.lint_declared.specs.Closed.{names_of}
-use Rattle.lint_declared.specs.declared.listed.Named.{Named}
+use Rattle.lint_declared.specs.declared.listed.ListedName.{ListedName}
 
 -- what references show
-abbrev pub shown : List (Bor Named) → List Named
+abbrev pub shown : List (Bor ListedName) → List ListedName
 shown = map (λ n. n.now)
 
-module _ (category : List ℕ) (before : List (Bor Named)) (n : Bor Named) where
+module _ (category : List ℕ) (before : List (Bor ListedName)) (n : Bor ListedName) where
   split : names_of category (shown (before ++ n ∷ [])) ≡ names_of category (shown before) ++ names_of category (n.now ∷ [])
-  split = ap (names_of category) (map-append (λ (m : Bor Named). m.now) before (n ∷ [])) ∙ filter_map-append _ (shown before) (n.now ∷ [])
+  split = ap (names_of category) (map-append (λ (m : Bor ListedName). m.now) before (n ∷ [])) ∙ filter_map-append _ (shown before) (n.now ∷ [])
 
   -- one of the category
   pub one_more : (old new : List Value) → bytes_eq n.now.category category ≡ true → new ≡ old ++ values.Text n.now.name ∷ []
@@ -34,5 +34,5 @@ module _ (category : List ℕ) (before : List (Bor Named)) (n : Bor Named) where
       of_none is = rw is refl
 
 -- all of them
-pub of_all : (category : List ℕ) (old : List Value) (before : List (Bor Named)) (all : List Named) → shown before ≡ all → old ≡ names_of category (shown before) → old ≡ names_of category all
+pub of_all : (category : List ℕ) (old : List Value) (before : List (Bor ListedName)) (all : List ListedName) → shown before ≡ all → old ≡ names_of category (shown before) → old ≡ names_of category all
 of_all category old before all are so_far = so_far ∙ ap (names_of category) are

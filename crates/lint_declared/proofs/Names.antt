@@ -12,24 +12,24 @@ use Rattle.std.specs.declared.cmp.Ordering.{Ordering}
 use Rattle.ent_values.proofs.Telling.{decided, decides, last, more, struct}
 use Rattle.ent_json.specs.Line.{data_of}
 use Rattle.lint_declared.specs.Settings.{has_name, listed_by, names_in}
-use Rattle.lint_declared.specs.contracts.listed.Named as named
-use Rattle.lint_declared.specs.contracts.listed.NamedEq.TheImpl.Laws as equalities
-use Rattle.lint_declared.specs.contracts.listed.NamedOrd.TheImpl as orders
-use Rattle.lint_declared.specs.contracts.listed.NamedOrd.TheImpl.Laws.{matches_eq-law}
-use Rattle.lint_declared.specs.contracts.listed.NamedPartialEq.TheImpl as names
-use Rattle.lint_declared.specs.declared.listed.Named.{Named}
+use Rattle.lint_declared.specs.contracts.listed.ListedName as named
+use Rattle.lint_declared.specs.contracts.listed.ListedNameEq.TheImpl.Laws as equalities
+use Rattle.lint_declared.specs.contracts.listed.ListedNameOrd.TheImpl as orders
+use Rattle.lint_declared.specs.contracts.listed.ListedNameOrd.TheImpl.Laws.{matches_eq-law}
+use Rattle.lint_declared.specs.contracts.listed.ListedNamePartialEq.TheImpl as names
+use Rattle.lint_declared.specs.declared.listed.ListedName.{ListedName}
 
-abbrev pub same_named : Named → Named → Bool
+abbrev pub same_named : ListedName → ListedName → Bool
 same_named = (names.ghosts).eq
 
-abbrev pub named_cmp : Named → Named → Ordering
+abbrev pub named_cmp : ListedName → ListedName → Ordering
 named_cmp = (orders.ghosts).cmp
 
-pub named-Decides : (a b : Named) → Decides (same_named a b) (a ≡ b)
+pub named-Decides : (a b : ListedName) → Decides (same_named a b) (a ≡ b)
 named-Decides = decides equalities.laws-law (struct named.struct named.the_propositions (more (decided bytes_eq-Decides) (last (decided bytes_eq-Decides))))
 
 -- what is found by the order is found by `==`
-pub by_order : (n : Named) (among : List Named) → list_any (λ other. is_eq (named_cmp n other)) among ≡ has_name n among
+pub by_order : (n : ListedName) (among : List ListedName) → list_any (λ other. is_eq (named_cmp n other)) among ≡ has_name n among
 by_order n among = λ i. list_any (λ other. sym (matches_eq-law n other) i) among
 
 -- two tests that have the same answer true
@@ -38,13 +38,13 @@ both_ways true b there back = sym (there refl)
 both_ways false true there back = back refl
 both_ways false false there back = refl
 
-same_turned : (m n : Named) → same_named m n ≡ same_named n m
+same_turned : (m n : ListedName) → same_named m n ≡ same_named n m
 same_turned m n =
     both_ways (same_named m n) (same_named n m) (λ h. (named-Decides n m).1 (sym ((named-Decides m n).0 h))) (λ h. (named-Decides m n).1 (sym ((named-Decides n m).0 h)))
 
 -- a set that has one name more than another
-abbrev pub HasMore : List Named → List Named → Named → Type 0
-HasMore old new more = (n : Named)
+abbrev pub HasMore : List ListedName → List ListedName → ListedName → Type 0
+HasMore old new more = (n : ListedName)
     → list_any (λ other. is_eq (named_cmp n other)) new ≡ cond (is_eq (named_cmp more n)) true (list_any (λ other. is_eq (named_cmp n other)) old)
 
 placed_last : (a b : Bool) → cond b true a ≡ (a || (b || false))
@@ -54,7 +54,7 @@ placed_last false true = refl
 placed_last false false = refl
 
 -- what is in it then
-pub added : (old new : List Named) (more : Named) → HasMore old new more → (n : Named) → has_name n new ≡ (has_name n old || has_name n (more ∷ []))
+pub added : (old new : List ListedName) (more : ListedName) → HasMore old new more → (n : ListedName) → has_name n new ≡ (has_name n old || has_name n (more ∷ []))
 added old new more updates n =
     sym (by_order n new) ∙ updates n
     ∙ (λ i. cond (same_is i) true (by_order n old i))
@@ -63,7 +63,7 @@ added old new more updates n =
     same_is : is_eq (named_cmp more n) ≡ same_named n more
     same_is = sym (matches_eq-law more n) ∙ same_turned more n
 
-pub none_added : (old : List Named) (n : Named) → has_name n old ≡ (has_name n old || has_name n [])
+pub none_added : (old : List ListedName) (n : ListedName) → has_name n old ≡ (has_name n old || has_name n [])
 none_added old n = by (has_name n old)
   where
     by : (b : Bool) → b ≡ (b || false)
@@ -72,15 +72,15 @@ none_added old n = by (has_name n old)
 
 -- ---- the names of lines
 
-of_one : (line : List ℕ) (o : Option Named) → o ≡ option_and_then listed_by (data_of line) → names_in (line ∷ []) ≡ option_to_list o
+of_one : (line : List ℕ) (o : Option ListedName) → o ≡ option_and_then listed_by (data_of line) → names_in (line ∷ []) ≡ option_to_list o
 of_one line o is = by o is
   where
-    by : (o : Option Named) → o ≡ option_and_then listed_by (data_of line) → names_in (line ∷ []) ≡ option_to_list o
+    by : (o : Option ListedName) → o ≡ option_and_then listed_by (data_of line) → names_in (line ∷ []) ≡ option_to_list o
     by None e = rw (← e) refl
     by (Some n) e = rw (← e) refl
 
 -- those of one line more
-pub one_more_line : (lines : List (Bor (List ℕ))) (i : ℕ) (d : Bor (List ℕ)) (o : Option Named) → i < length lines → o ≡ option_and_then listed_by (data_of (get_or lines i d).now)
+pub one_more_line : (lines : List (Bor (List ℕ))) (i : ℕ) (d : Bor (List ℕ)) (o : Option ListedName) → i < length lines → o ≡ option_and_then listed_by (data_of (get_or lines i d).now)
     → names_in (map (λ l. l.now) (take (i + 1) lines)) ≡ names_in (map (λ l. l.now) (take i lines)) ++ option_to_list o
 one_more_line lines i d o lt is =
     ap (λ ls. names_in (map (λ (l : Bor (List ℕ)). l.now) ls)) (take_more lines i d lt)
@@ -93,7 +93,7 @@ or_or true b c = refl
 or_or false b c = refl
 
 -- a name is there where it was, or where a line lists it
-pub read_more : (n : Named) (start old new before after : List Named) (o : Option Named) → has_name n old ≡ (has_name n start || has_name n before)
+pub read_more : (n : ListedName) (start old new before after : List ListedName) (o : Option ListedName) → has_name n old ≡ (has_name n start || has_name n before)
     → has_name n new ≡ (has_name n old || has_name n (option_to_list o)) → after ≡ before ++ option_to_list o → has_name n new ≡ (has_name n start || has_name n after)
 read_more n start old new before after o so_far is all =
     is ∙ ap (λ b. b || has_name n (option_to_list o)) so_far ∙ or_or (has_name n start) (has_name n before) (has_name n (option_to_list o))

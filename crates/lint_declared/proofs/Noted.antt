@@ -9,11 +9,11 @@ use Rattle.lint_declared.specs.Claims.{behind, same_claim, standing_behind}
 use Rattle.lint_declared.specs.Lines.{fault_of, faulty_from, with_fault}
 use Rattle.lint_declared.specs.contracts.claim.ClaimOrd.TheImpl as orders
 use Rattle.lint_declared.specs.contracts.claim.ClaimOrd.TheImpl.Laws.{matches_eq-law}
-use Rattle.lint_declared.specs.declared.attribute.Attribute.{Attribute}
+use Rattle.lint_declared.specs.declared.attribute.DeclaredAttribute.{DeclaredAttribute}
 use Rattle.lint_declared.specs.declared.claim.Claim.{Claim}
 use Rattle.lint_declared.specs.declared.lines.FaultyLine.{FaultyLine}
 use Rattle.lint_declared.specs.declared.lines.LineFault.{LineFault}
-use Rattle.lint_declared.specs.declared.listed.Named.{Named}
+use Rattle.lint_declared.specs.declared.listed.ListedName.{ListedName}
 
 abbrev pub claim_cmp : Claim → Claim → Ordering
 claim_cmp = (orders.ghosts).cmp
@@ -40,7 +40,7 @@ pub any_shown : (p : List ℕ → Bool) (xs : List (Bor (List ℕ))) → list_an
 any_shown p [] = refl
 any_shown p (x ∷ xs) = ap (λ b. p x.now || b) (any_shown p xs)
 
-module _ (commands : List (List ℕ)) (attributes : List Attribute) (listed : List Named) where
+module _ (commands : List (List ℕ)) (attributes : List DeclaredAttribute) (listed : List ListedName) where
   -- what is left is put behind what was
   abbrev pub told_from : List FaultyLine → (Claim → Option ℕ) → List (Bor (List ℕ)) → ℕ → List FaultyLine
   told_from all claimed lines i = all ++ faulty_from commands attributes listed claimed (suc i) (map (λ l. l.now) (drop i lines))

@@ -11,7 +11,7 @@ use Rattle.ent_json.specs.Objects.{has_only, text_at}
 use Rattle.ent_policy.specs.Names.{name_of}
 use Rattle.ent_polform.specs.Objects.{◌>>=◌, must, need}
 use Rattle.ent_polform.specs.Values.{value_in}
-use Rattle.lint_declared.specs.declared.attribute.Attribute.{Attribute}
+use Rattle.lint_declared.specs.declared.attribute.DeclaredAttribute.{DeclaredAttribute}
 use Rattle.lint_declared.specs.declared.fault.AttributeFault.{AttributeFault}
 use Rattle.lint_declared.specs.declared.fault.AttributeFault.TheVariants as fault
 use Rattle.lint_declared.specs.declared.fault.AttributesFault.{AttributesFault}
@@ -44,7 +44,7 @@ abbrev pub declared_keys : List (List ℕ)
 declared_keys = codes "AttributeId" ∷ codes "Category" ∷ codes "DataType" ∷ codes "Issuer" ∷ codes "Values" ∷ []
 
 -- the attribute that a declaration names, or what is wrong with it: Category, AttributeId and DataType, and maybe Issuer, and the values that it may have
-unfoldable pub attribute_of : Data → Result Attribute AttributeFault
+unfoldable pub attribute_of : Data → Result DeclaredAttribute AttributeFault
 attribute_of d = must fault.Form (has_only declared_keys d) (do
   category ← need fault.Category (name_at (codes "Category") d)
   id ← need fault.AttributeId (name_at (codes "AttributeId") d)
@@ -56,12 +56,12 @@ attribute_of d = must fault.Form (has_only declared_keys d) (do
 -- ---- a list of declarations
 
 -- the fault of a declaration, with its number in the list
-abbrev pub numbered : ℕ → Result Attribute AttributeFault → Result Attribute AttributesFault
+abbrev pub numbered : ℕ → Result DeclaredAttribute AttributeFault → Result DeclaredAttribute AttributesFault
 numbered n (Ok a) = Ok a
 numbered n (Err f) = Err (faults.Member n f)
 
 -- the attributes that declarations name, of which the first has this number, or the first fault
-abbrev pub attributes_from : ℕ → Items → Result (List Attribute) AttributesFault
+abbrev pub attributes_from : ℕ → Items → Result (List DeclaredAttribute) AttributesFault
 attributes_from n json.no_items = Ok []
 attributes_from n (json.item d ds) = numbered n (attribute_of d) >>= λ a. attributes_from (suc n) ds >>= λ more. Ok (a ∷ more)
 
@@ -73,11 +73,11 @@ behind first (Err f) = Err f
 -- ---- those that are always declared
 
 -- an attribute without an issuer, of any values
-abbrev pub attribute : List ℕ → List ℕ → DataType → Attribute
+abbrev pub attribute : List ℕ → List ℕ → DataType → DeclaredAttribute
 attribute category id datatype = record { category = category; id = id; datatype = datatype; issuer = None; values = None }
 
 -- the ids of the three names of a request (appendix B.2, B.3 and B.4), and the attributes of the moment (appendix B.7)
-abbrev pub always : List Attribute
+abbrev pub always : List DeclaredAttribute
 always = attribute (codes "urn:oasis:names:tc:xacml:1.0:subject-category:access-subject") (codes "urn:oasis:names:tc:xacml:1.0:subject:subject-id") types.Text
     ∷ attribute (codes "urn:oasis:names:tc:xacml:3.0:attribute-category:action") (codes "urn:oasis:names:tc:xacml:1.0:action:action-id") types.Text
     ∷ attribute (codes "urn:oasis:names:tc:xacml:3.0:attribute-category:resource") (codes "urn:oasis:names:tc:xacml:1.0:resource:resource-id") types.Text
@@ -87,7 +87,7 @@ always = attribute (codes "urn:oasis:names:tc:xacml:1.0:subject-category:access-
     ∷ []
 
 -- what a file declares: an object with a list at Attributes, whose attributes stand behind those that are always declared; or its first fault
-unfoldable pub attributes_of : Data → Result (List Attribute) AttributesFault
+unfoldable pub attributes_of : Data → Result (List DeclaredAttribute) AttributesFault
 attributes_of d = must faults.NoList (has_only (codes "Attributes" ∷ []) d)
     (need faults.NoList (option_and_then as_array (get (codes "Attributes") d)) >>= λ items. behind always (attributes_from 0 items))
 

@@ -10,7 +10,7 @@ use Rattle.lint_declared.specs.contracts.claim.ClaimPartialEq.TheImpl as claims
 use Rattle.lint_declared.specs.declared.claim.Claim.{Claim}
 use Rattle.lint_declared.specs.declared.claim.Claim.TheVariants as claim
 use Rattle.lint_declared.specs.declared.claim.SetRow.{SetRow}
-use Rattle.lint_declared.specs.declared.listed.Named.{Named}
+use Rattle.lint_declared.specs.declared.listed.ListedName.{ListedName}
 
 -- the category out of whose names a command takes one
 abbrev pub category_dropped : List ℕ → Option (List ℕ)
@@ -20,7 +20,7 @@ category_dropped word =
     else (if bytes_eq word (codes "resource.drop") then Some (codes "urn:oasis:names:tc:xacml:3.0:attribute-category:resource") else None))
 
 -- the name that a line drops, if it does
-unfoldable pub dropped_by : Data → Option Named
+unfoldable pub dropped_by : Data → Option ListedName
 dropped_by d = option_and_then (λ category. option_map (named category) (text_at (codes "name") d))
     (option_and_then category_dropped (text_at (codes "do") d))
 
@@ -43,7 +43,7 @@ unfoldable pub row_of : Data → Option SetRow
 row_of d = option_and_then (λ n. option_map (row_in n) (setting_of d)) (module_at d)
 
 -- what a line says that lists a name, drops one or sets a row, and whether it stands from then on
-abbrev pub said_of : Option Named → Option Named → Option SetRow → Option (Claim × Bool)
+abbrev pub said_of : Option ListedName → Option ListedName → Option SetRow → Option (Claim × Bool)
 said_of (Some name) dropped row = Some (claim.Listed name, true)
 said_of None (Some name) row = Some (claim.Listed name, false)
 said_of None None (Some row) = Some (claim.Values row, true)

@@ -17,7 +17,7 @@ use Rattle.ent_polform.specs.Values.{value_in}
 use Rattle.lint_places.specs.declared.part.Part.{Part}
 use Rattle.lint_places.specs.declared.part.Part.TheVariants as part
 use Rattle.lint_declared.specs.Asked.{asked, finds}
-use Rattle.lint_declared.specs.declared.attribute.Attribute.{Attribute}
+use Rattle.lint_declared.specs.declared.attribute.DeclaredAttribute.{DeclaredAttribute}
 
 -- ---- places
 
@@ -87,15 +87,15 @@ literals = compared (codes "AttributeValue")
 -- ---- literals that aren't among the values
 
 -- the values of an attribute are listed
-abbrev pub lists_values : Attribute → Bool
+abbrev pub lists_values : DeclaredAttribute → Bool
 lists_values a = is_some a.values
 
 -- a value is among those that are listed
-abbrev pub lists : Value → Attribute → Bool
+abbrev pub lists : Value → DeclaredAttribute → Bool
 lists value a = option_map_or (list_any (same_value value)) a.values false
 
 -- values are listed for what is wanted, and this one is none of them
-abbrev pub is_foreign : List Attribute → Attribute → Value → Bool
+abbrev pub is_foreign : List DeclaredAttribute → DeclaredAttribute → Value → Bool
 is_foreign attributes wanted value =
     list_any (λ a. finds wanted a && lists_values a) attributes && not (list_any (λ a. finds wanted a && lists value a) attributes)
 
@@ -104,14 +104,14 @@ abbrev pub literal_as : DataType → Data → Option Value
 literal_as datatype d = option_and_then (value_in datatype) (get (codes "Value") d)
 
 -- so a literal is foreign to what a designator asks for
-abbrev pub is_foreign_to : List Attribute → Option Attribute → Data → Bool
+abbrev pub is_foreign_to : List DeclaredAttribute → Option DeclaredAttribute → Data → Bool
 is_foreign_to attributes None literal = false
 is_foreign_to attributes (Some wanted) literal = option_map_or (is_foreign attributes wanted) (literal_as wanted.datatype literal) false
 
 -- a literal with which a designator is compared is none of the values that are listed for it
-abbrev pub is_stray : List Attribute → Place → Place → Bool
+abbrev pub is_stray : List DeclaredAttribute → Place → Place → Bool
 is_stray attributes designator literal = is_foreign_to attributes (asked designator.1) literal.1
 
 -- some literal of a part is so
-abbrev pub has_stray : List Attribute → Part → Place → Bool
+abbrev pub has_stray : List DeclaredAttribute → Part → Place → Bool
 has_stray attributes p place = list_any (λ literal. list_any (λ designator. is_stray attributes designator literal) (designators p place)) (literals p place)

@@ -12,43 +12,43 @@ use Rattle.lint_declared.specs.Asked.{finds}
 use Rattle.lint_declared.specs.Claims.{behind, said_by}
 use Rattle.lint_declared.specs.Compared.{is_foreign}
 use Rattle.lint_declared.specs.Settings.{Setting, category_listed, has_name, is_setting, named, setting_of}
-use Rattle.lint_declared.specs.declared.attribute.Attribute.{Attribute}
+use Rattle.lint_declared.specs.declared.attribute.DeclaredAttribute.{DeclaredAttribute}
 use Rattle.lint_declared.specs.declared.claim.Claim.{Claim}
 use Rattle.lint_declared.specs.declared.claim.Claim.TheVariants as claim
 use Rattle.lint_declared.specs.declared.lines.LineFault.{LineFault}
 use Rattle.lint_declared.specs.declared.lines.LineFault.TheVariants as fault
 use Rattle.lint_declared.specs.declared.lines.FaultyLine.{FaultyLine}
-use Rattle.lint_declared.specs.declared.listed.Named.{Named}
+use Rattle.lint_declared.specs.declared.listed.ListedName.{ListedName}
 
 -- an attribute is declared as it is set: with the same issuer, or without one
-abbrev pub is_set_as : Attribute → Attribute → Bool
+abbrev pub is_set_as : DeclaredAttribute → DeclaredAttribute → Bool
 is_set_as set declared = finds set declared && finds declared set
 
 -- a value is none of the attribute's type, or is none of those that are listed for it
-abbrev pub is_bad_value : List Attribute → Attribute → Data → Bool
+abbrev pub is_bad_value : List DeclaredAttribute → DeclaredAttribute → Data → Bool
 is_bad_value attributes set d = option_map_or (is_foreign attributes set) (value_in set.datatype d) true
 
 -- the number of the first such value, where the first has this number
-abbrev pub bad_value_from : List Attribute → Attribute → ℕ → Items → Option ℕ
+abbrev pub bad_value_from : List DeclaredAttribute → DeclaredAttribute → ℕ → Items → Option ℕ
 bad_value_from attributes set n json.no_items = None
 bad_value_from attributes set n (json.item d ds) = if is_bad_value attributes set d then Some n else bad_value_from attributes set (suc n) ds
 
 -- a fault of a value, or else that the name isn't listed
-abbrev pub fault_of_names : List Named → Setting → Option LineFault
+abbrev pub fault_of_names : List ListedName → Setting → Option LineFault
 fault_of_names listed s = if has_name (named s.attribute.category s.entity) listed then None else Some (fault.Unlisted (named s.attribute.category s.entity))
 
-abbrev pub fault_of_values : List Named → Setting → Option ℕ → Option LineFault
+abbrev pub fault_of_values : List ListedName → Setting → Option ℕ → Option LineFault
 fault_of_values listed s (Some n) = Some (fault.Value s.attribute n)
 fault_of_values listed s None = fault_of_names listed s
 
 -- what is first wrong with what a line sets: its attribute isn't declared, a value isn't one of it, or nobody is called so
-abbrev pub fault_of_setting : List Attribute → List Named → Setting → Option LineFault
+abbrev pub fault_of_setting : List DeclaredAttribute → List ListedName → Setting → Option LineFault
 fault_of_setting attributes listed s =
     if list_any (is_set_as s.attribute) attributes then fault_of_values listed s (bad_value_from attributes s.attribute 0 s.values)
     else Some (fault.Undeclared s.attribute)
 
 -- with a line that sets something
-abbrev pub fault_of_set : List Attribute → List Named → Option Setting → Option LineFault
+abbrev pub fault_of_set : List DeclaredAttribute → List ListedName → Option Setting → Option LineFault
 fault_of_set attributes listed None = Some fault.Form
 fault_of_set attributes listed (Some s) = fault_of_setting attributes listed s
 
@@ -72,23 +72,23 @@ is_warning (fault.Again (claim.Values row) n) = true
 is_warning _ = false
 
 -- with a line whose command there is
-abbrev pub fault_of_known : List Attribute → List Named → (Claim → Option ℕ) → Data → Option LineFault
+abbrev pub fault_of_known : List DeclaredAttribute → List ListedName → (Claim → Option ℕ) → Data → Option LineFault
 fault_of_known attributes listed claimed d =
     option_or (if is_setting d then fault_of_set attributes listed (setting_of d) else fault_of_listing d) (fault_of_claim claimed (said_by d))
 
 -- with a line whose command has that word
-abbrev pub fault_of_word : List (List ℕ) → List Attribute → List Named → (Claim → Option ℕ) → Option (List ℕ) → Data → Option LineFault
+abbrev pub fault_of_word : List (List ℕ) → List DeclaredAttribute → List ListedName → (Claim → Option ℕ) → Option (List ℕ) → Data → Option LineFault
 fault_of_word commands attributes listed claimed None d = Some fault.NoCommand
 fault_of_word commands attributes listed claimed (Some word) d =
     if list_any (bytes_eq word) commands then fault_of_known attributes listed claimed d else Some (fault.Unknown word)
 
 -- with the JSON of a line; one that isn't JSON has a fault
-abbrev pub fault_of_data : List (List ℕ) → List Attribute → List Named → (Claim → Option ℕ) → Option Data → Option LineFault
+abbrev pub fault_of_data : List (List ℕ) → List DeclaredAttribute → List ListedName → (Claim → Option ℕ) → Option Data → Option LineFault
 fault_of_data commands attributes listed claimed None = Some fault.NotJson
 fault_of_data commands attributes listed claimed (Some d) = fault_of_word commands attributes listed claimed (text_at (codes "do") d) d
 
 -- with a line; an empty one has no fault
-abbrev pub fault_of : List (List ℕ) → List Attribute → List Named → (Claim → Option ℕ) → List ℕ → Option LineFault
+abbrev pub fault_of : List (List ℕ) → List DeclaredAttribute → List ListedName → (Claim → Option ℕ) → List ℕ → Option LineFault
 fault_of commands attributes listed claimed [] = None
 fault_of commands attributes listed claimed (c ∷ cs) = fault_of_data commands attributes listed claimed (data_of (c ∷ cs))
 
@@ -98,11 +98,11 @@ with_fault n None others = others
 with_fault n (Some e) others = record { number = n; fault = e } ∷ others
 
 -- of lines of which the first has this number, behind lines that claim this
-abbrev pub faulty_from : List (List ℕ) → List Attribute → List Named → (Claim → Option ℕ) → ℕ → List (List ℕ) → List FaultyLine
+abbrev pub faulty_from : List (List ℕ) → List DeclaredAttribute → List ListedName → (Claim → Option ℕ) → ℕ → List (List ℕ) → List FaultyLine
 faulty_from commands attributes listed claimed n [] = []
 faulty_from commands attributes listed claimed n (line ∷ lines) =
     with_fault n (fault_of commands attributes listed claimed line) (faulty_from commands attributes listed (behind claimed n line) (suc n) lines)
 
 -- what is wrong with lines, where there are these commands, attributes and names
-abbrev pub faults_in : List (List ℕ) → List Attribute → List Named → List (List ℕ) → List FaultyLine
+abbrev pub faults_in : List (List ℕ) → List DeclaredAttribute → List ListedName → List (List ℕ) → List FaultyLine
 faults_in commands attributes listed lines = faulty_from commands attributes listed (λ c. None) 1 lines

@@ -7,9 +7,9 @@ use Rattle.serde_json.specs.Find.{as_array, get}
 use Rattle.ent_values.specs.Types.{type_of}
 use Rattle.ent_json.specs.Line.{data_of}
 use Rattle.ent_json.specs.Objects.{text_at, text_or_absent}
-use Rattle.lint_declared.specs.contracts.listed.NamedPartialEq.TheImpl as names
-use Rattle.lint_declared.specs.declared.attribute.Attribute.{Attribute}
-use Rattle.lint_declared.specs.declared.listed.Named.{Named}
+use Rattle.lint_declared.specs.contracts.listed.ListedNamePartialEq.TheImpl as names
+use Rattle.lint_declared.specs.declared.attribute.DeclaredAttribute.{DeclaredAttribute}
+use Rattle.lint_declared.specs.declared.listed.ListedName.{ListedName}
 
 -- ---- names that are listed
 
@@ -21,20 +21,20 @@ category_listed word =
     else (if bytes_eq word (codes "resource.add") then Some (codes "urn:oasis:names:tc:xacml:3.0:attribute-category:resource") else None))
 
 -- a name of a category
-abbrev pub named : List ℕ → List ℕ → Named
+abbrev pub named : List ℕ → List ℕ → ListedName
 named category name = record { category = category; name = name }
 
 -- the name that a line lists, if it does
-unfoldable pub listed_by : Data → Option Named
+unfoldable pub listed_by : Data → Option ListedName
 listed_by d = option_and_then (λ category. option_map (named category) (text_at (codes "name") d))
     (option_and_then category_listed (text_at (codes "do") d))
 
 -- the names that lines list
-abbrev pub names_in : List (List ℕ) → List Named
+abbrev pub names_in : List (List ℕ) → List ListedName
 names_in = filter_map (λ line. option_and_then listed_by (data_of line))
 
 -- a name is among these
-abbrev pub has_name : Named → List Named → Bool
+abbrev pub has_name : ListedName → List ListedName → Bool
 has_name name among = list_any ((names.ghosts).eq name) among
 
 -- ---- values that are set
@@ -51,7 +51,7 @@ category_of word =
 
 -- what a line sets: values of an attribute, for a name of its category
 pub record Setting : Type 0 where
-  pub attribute : Attribute
+  pub attribute : DeclaredAttribute
   pub entity : List ℕ
   pub values : Items
 

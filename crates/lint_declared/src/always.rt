@@ -3,7 +3,7 @@
 ghost use Rattle.std.specs.Prelude.{◌≡◌, [], ◌∷◌, ◌++◌, IfOk, None, OnOk};
 ghost use Rattle.lint_declared.specs.Attributes.{always, attribute};
 
-use crate::attribute::Attribute;
+use crate::attribute::DeclaredAttribute;
 use ent_values::{DataType, Items, Text};
 use std::alloc::{AllocError, Global};
 
@@ -38,7 +38,7 @@ const CURRENT_DATE_TIME: &str = "urn:oasis:names:tc:xacml:1.0:environment:curren
 /// Puts an attribute last that has no issuer and may have any values.
 fn put(
     alloc: Global,
-    attributes: &mut Items<Attribute>,
+    attributes: &mut Items<DeclaredAttribute>,
     category: &str,
     id: &str,
     datatype: DataType,
@@ -47,7 +47,7 @@ fn put(
 {
     let category = Text::from_str(alloc, category)?;
     let id = Text::from_str(alloc, id)?;
-    attributes.push(Attribute {
+    attributes.push(DeclaredAttribute {
         category,
         id,
         datatype,
@@ -57,7 +57,7 @@ fn put(
 }
 
 /// The ids of the three names of a request of the table, and the attributes of the moment.
-pub(crate) fn always(alloc: Global) -> Result<Items<Attribute>, AllocError>
+pub(crate) fn always(alloc: Global) -> Result<Items<DeclaredAttribute>, AllocError>
     ensures { IfOk result (λ a. a ≡ always) }
 {
     let mut all = Items::with_capacity(alloc, 6)?;

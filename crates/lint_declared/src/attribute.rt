@@ -3,7 +3,7 @@
 ghost use Rattle.std.specs.Prelude.{◌≡◌, IfOk, option_map};
 ghost use Rattle.lint_declared.specs.Asked.{asked, finds, finds_one, is_wanted};
 
-use crate::known::Known;
+use crate::known::DeclaredValues;
 use ent_json::{JsonTree, text_at};
 use ent_values::{DataType, Items, Text, Value};
 use std::alloc::{AllocError, Global};
@@ -11,7 +11,7 @@ use std::alloc::{AllocError, Global};
 /// An attribute that is declared, or that a designator asks for: then without an issuer its values of any issuer and
 /// of none are wanted.
 #[derive(Drop)]
-pub struct Attribute {
+pub struct DeclaredAttribute {
     pub category: Text,
     pub id: Text,
     pub datatype: DataType,
@@ -41,12 +41,12 @@ fn is_wanted(wanted: &Option<Text>, issuer: &Option<Text>) -> bool
     }
 }
 
-impl Attribute {
+impl DeclaredAttribute {
     /// Whether the values of an attribute are among those that this one asks for: category, id and data type are the
     /// same, and the issuer is if this one has one (section 7.3.4).
     ///
     /// Its contract is an equation.
-    pub fn finds(&self, attribute: &Attribute) -> bool
+    pub fn finds(&self, attribute: &DeclaredAttribute) -> bool
         ensures { result ≡ finds self.now attribute.now }
     {
         self.category == attribute.category
@@ -61,7 +61,7 @@ impl Attribute {
 pub(crate) fn asked<J: JsonTree>(
     alloc: Global,
     designator: &J,
-) -> Result<Option<Attribute>, AllocError>
+) -> Result<Option<DeclaredAttribute>, AllocError>
     ensures { IfOk result (λ o. o ≡ asked (J.content designator.now)) }
 {
     let Some(category) = text_at(designator, "Category") else {
@@ -74,7 +74,7 @@ pub(crate) fn asked<J: JsonTree>(
         return Ok(None);
     };
     let issuer = owned(alloc, text_at(designator, "Issuer"))?;
-    Ok(Some(Attribute {
+    Ok(Some(DeclaredAttribute {
         category: Text::from_str(alloc, category)?,
         id: Text::from_str(alloc, id)?,
         datatype,
@@ -84,7 +84,10 @@ pub(crate) fn asked<J: JsonTree>(
 }
 
 /// Whether values of one of the attributes are asked for.
-pub(crate) fn finds_one(attributes: &[Known<'_>], wanted: &Option<Attribute>) -> bool
+pub(crate) fn finds_one(
+    attributes: &[DeclaredValues<'_>],
+    wanted: &Option<DeclaredAttribute>,
+) -> bool
     ensures { result ≡ finds_one attributes.now wanted.now }
 {
     match wanted {

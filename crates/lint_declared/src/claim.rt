@@ -7,7 +7,7 @@ ghost use Rattle.lint_declared.specs.proofs_only.Claims.{claimed_in};
 ghost use Rattle.ent_json.specs.Line.{data_of};
 
 use crate::always::{ACCESS_SUBJECT, ACTION, RESOURCE};
-use crate::listed::{Named, listed_by};
+use crate::listed::{ListedName, listed_by};
 use crate::setting::{is_setting, setting_of};
 use ent_json::{JsonTree, read_json, text_at};
 use ent_values::{DataType, Text};
@@ -19,7 +19,7 @@ use std::collections::BTreeMap;
 #[derive(PartialEq, Eq, PartialOrd, Ord, Drop)]
 pub struct SetRow {
     pub in_module: u64,
-    pub entity: Named,
+    pub entity: ListedName,
     pub attribute: Text,
     pub datatype: DataType,
     pub issuer: Option<Text>,
@@ -29,7 +29,7 @@ pub struct SetRow {
 #[derive(PartialEq, Eq, PartialOrd, Ord, Drop)]
 pub enum Claim {
     /// That a name is listed.
-    Listed(Named),
+    Listed(ListedName),
     /// Which values a row has.
     Values(SetRow),
 }
@@ -51,7 +51,7 @@ fn category_dropped(word: &str) -> Option<&'static str>
 
 /// The name that a line drops, if it does.
 #[tactic(auto, unfolding(crate::specs::Claims::dropped_by))]
-fn dropped_by<J: JsonTree>(alloc: Global, line: &J) -> Result<Option<Named>, AllocError>
+fn dropped_by<J: JsonTree>(alloc: Global, line: &J) -> Result<Option<ListedName>, AllocError>
     ensures { IfOk result (λ o. o ≡ dropped_by (J.content line.now)) }
 {
     let Some(category) = text_at(line, "do").and_then(category_dropped) else {
@@ -60,7 +60,7 @@ fn dropped_by<J: JsonTree>(alloc: Global, line: &J) -> Result<Option<Named>, All
     let Some(name) = text_at(line, "name") else {
         return Ok(None);
     };
-    Ok(Some(Named {
+    Ok(Some(ListedName {
         category: Text::from_str(alloc, category)?,
         name: Text::from_str(alloc, name)?,
     }))
@@ -91,7 +91,7 @@ fn row_of<J: JsonTree>(alloc: Global, line: &J) -> Result<Option<SetRow>, AllocE
     let category = attribute.category;
     Ok(Some(SetRow {
         in_module,
-        entity: Named { category, name },
+        entity: ListedName { category, name },
         attribute: attribute.id,
         datatype: attribute.datatype,
         issuer: attribute.issuer,

@@ -4,8 +4,8 @@ ghost use Rattle.std.specs.Prelude.{◌≡◌, ◌++◌, IfOk, OnOk};
 ghost use Rattle.lint_declared.specs.Closed.{closed, closed_by, names_of};
 
 use crate::always::{ACCESS_SUBJECT, ACTION, ACTION_ID, RESOURCE, RESOURCE_ID, SUBJECT_ID};
-use crate::attribute::Attribute;
-use crate::listed::{Listed, Named};
+use crate::attribute::DeclaredAttribute;
+use crate::listed::{Listed, ListedName};
 use ent_values::{DataType, Items, Text, Value};
 use std::alloc::{AllocError, Global};
 use std::collections::BTreeSet;
@@ -14,7 +14,7 @@ use std::collections::BTreeSet;
 #[tactic(auto, using(crate::proofs::Closing::one_more, crate::proofs::Closing::none_more, crate::proofs::Closing::of_all))]
 fn names_of(
     alloc: Global,
-    names: &BTreeSet<Named>,
+    names: &BTreeSet<ListedName>,
     category: &str,
 ) -> Result<Items<Value>, AllocError>
     ensures { IfOk result (λ vs. vs ≡ names_of category.now names.now.keys) }
@@ -31,7 +31,7 @@ fn names_of(
 /// Puts an attribute last that may have these values alone, if there are any.
 fn put_closed(
     alloc: Global,
-    attributes: &mut Items<Attribute>,
+    attributes: &mut Items<DeclaredAttribute>,
     category: &str,
     id: &str,
     values: Items<Value>,
@@ -41,7 +41,7 @@ fn put_closed(
     if values.is_empty() {
         return Ok(());
     }
-    attributes.push(Attribute {
+    attributes.push(DeclaredAttribute {
         category: Text::from_str(alloc, category)?,
         id: Text::from_str(alloc, id)?,
         datatype: DataType::Text,
@@ -61,7 +61,7 @@ impl Listed {
     pub fn put_last(
         &self,
         alloc: Global,
-        attributes: &mut Items<Attribute>,
+        attributes: &mut Items<DeclaredAttribute>,
     ) -> Result<(), AllocError>
         ensures { OnOk result (attributes.new ≡ attributes.old ++ closed_by self.now) }
     {

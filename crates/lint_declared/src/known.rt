@@ -4,7 +4,7 @@ ghost use Rattle.std.specs.Prelude.{◌≡◌, IfOk, map};
 ghost use Rattle.lint_declared.specs.Compared.{lists, lists_values};
 ghost use Rattle.lint_declared.specs.proofs_only.Values.{ListsAsSet, MaybeAsSet};
 
-use crate::attribute::Attribute;
+use crate::attribute::DeclaredAttribute;
 use ent_values::{Items, Value};
 use std::alloc::{AllocError, Global};
 use std::collections::BTreeSet;
@@ -12,16 +12,16 @@ use std::marker::Model;
 
 /// An attribute that is declared, with the set of the values that are listed for it.
 #[derive(Drop)]
-pub(crate) struct Known<'a> {
-    attribute: &'a Attribute,
+pub(crate) struct DeclaredValues<'a> {
+    attribute: &'a DeclaredAttribute,
     values: BTreeSet<Value>,
 }
 
-impl<'a> Model for Known<'a> {
-    ghost use Rattle.lint_declared.specs.declared.attribute.Attribute.{Attribute};
+impl<'a> Model for DeclaredValues<'a> {
+    ghost use Rattle.lint_declared.specs.declared.attribute.DeclaredAttribute.{DeclaredAttribute};
     ghost use Rattle.lint_declared.specs.proofs_only.Values.{MaybeAsSet};
 
-    ghost Value = { Attribute };
+    ghost Value = { DeclaredAttribute };
 
     ghost view = { λ k. k.attribute.now };
 
@@ -52,17 +52,20 @@ fn set_of_listed(
     }
 }
 
-impl<'a> Known<'a> {
+impl<'a> DeclaredValues<'a> {
     /// An attribute with the set of its values.
-    fn new(alloc: Global, attribute: &'a Attribute) -> Result<Known<'a>, AllocError>
+    fn new(
+        alloc: Global,
+        attribute: &'a DeclaredAttribute,
+    ) -> Result<DeclaredValues<'a>, AllocError>
         ensures { IfOk result (λ k. k ≡ attribute.now) }
     {
         let values = set_of_listed(alloc, &attribute.values)?;
-        Ok(Known { attribute, values })
+        Ok(DeclaredValues { attribute, values })
     }
 
     /// The attribute.
-    pub(crate) fn attribute(&self) -> &'a Attribute
+    pub(crate) fn attribute(&self) -> &'a DeclaredAttribute
         ensures { result.now ≡ self.now }
     {
         self.attribute
@@ -86,13 +89,13 @@ impl<'a> Known<'a> {
 /// Each of some attributes with the set of its values.
 pub(crate) fn with_sets<'a>(
     alloc: Global,
-    attributes: &'a [Attribute],
-) -> Result<Vec<Known<'a>>, AllocError>
+    attributes: &'a [DeclaredAttribute],
+) -> Result<Vec<DeclaredValues<'a>>, AllocError>
     ensures { IfOk result (λ all. all.items ≡ attributes.now) }
 {
     let mut all = Vec::with_capacity(alloc, attributes.len())?;
     for attribute in attributes {
-        all.push(Known::new(alloc, attribute)?)?;
+        all.push(DeclaredValues::new(alloc, attribute)?)?;
     }
     Ok(all)
 }

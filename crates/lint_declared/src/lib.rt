@@ -21,11 +21,11 @@ mod stray;
 mod told;
 mod walk;
 
-pub use attribute::Attribute;
+pub use attribute::DeclaredAttribute;
 pub use claim::{Claim, SetRow};
 pub use designator::Undeclared;
 pub use fault::{AttributeFault, AttributesFault};
 pub use lines::{FaultyLine, LineFault, faulty_lines};
-pub use listed::{Listed, Named};
+pub use listed::{Listed, ListedName};
 pub use reading::{DECLARED_KEYS, read_attributes};
 pub use walk::undeclared;

@@ -4,10 +4,10 @@ ghost use Rattle.std.specs.Prelude.{◌≡◌, IfOk, string_bytes, true};
 ghost use Rattle.lint_messages.specs.Told.{is_one_line};
 
 use crate::always::{ACTION, RESOURCE};
-use crate::attribute::Attribute;
+use crate::attribute::DeclaredAttribute;
 use crate::claim::{Claim, SetRow};
 use crate::lines::{FaultyLine, LineFault};
-use crate::listed::{Listed, Named};
+use crate::listed::{Listed, ListedName};
 use crate::near::Candidates;
 use crate::said::{name, said};
 use crate::setting::values_at;
@@ -36,9 +36,9 @@ fn shown<J: JsonTree>(alloc: Global, json: &J) -> Result<String, AllocError> {
 /// What is said of a value of a line: that it isn't one of the attribute's type, or isn't among those that are listed.
 fn value_told<J: JsonTree>(
     alloc: Global,
-    attribute: &Attribute,
+    attribute: &DeclaredAttribute,
     value: &J,
-    attributes: &[Attribute],
+    attributes: &[DeclaredAttribute],
 ) -> Result<String, AllocError> {
     let text = shown(alloc, value)?;
     if value_in(alloc, attribute.datatype, value)?.is_some() {
@@ -53,9 +53,9 @@ fn value_told<J: JsonTree>(
 fn value_in_line(
     alloc: Global,
     line: &[u8],
-    attribute: &Attribute,
+    attribute: &DeclaredAttribute,
     number: usize,
-    attributes: &[Attribute],
+    attributes: &[DeclaredAttribute],
 ) -> Result<String, AllocError> {
     let mut scratch = Scratch::new(alloc);
     if let Some(json) = read_json(alloc, line, &mut scratch)? {
@@ -80,7 +80,11 @@ fn word(category: &str) -> &'static str {
 }
 
 /// That a name isn't listed, and which is near.
-fn unlisted_sentence(alloc: Global, wanted: &Named, listed: &Listed) -> Result<String, AllocError> {
+fn unlisted_sentence(
+    alloc: Global,
+    wanted: &ListedName,
+    listed: &Listed,
+) -> Result<String, AllocError> {
     let word = word(wanted.category.as_str());
     let name = said(alloc, wanted.name.as_str())?;
     match listed.nearest(alloc, wanted)? {
@@ -118,7 +122,7 @@ fn unknown_sentence(alloc: Global, wanted: &str, commands: &[&str]) -> Result<St
 }
 
 /// That a name may not be listed.
-fn bad_name_sentence(alloc: Global, named: &Named) -> Result<String, AllocError> {
+fn bad_name_sentence(alloc: Global, named: &ListedName) -> Result<String, AllocError> {
     let word = word(named.category.as_str());
     match named.name.as_str().len() {
         0 => format!(in alloc; "the name of the {word} is empty; it has 1 to 256 bytes"),
@@ -134,7 +138,7 @@ fn row_name(alloc: Global, row: &SetRow) -> Result<String, AllocError> {
         None => None,
         Some(issuer) => Some(issuer.copy(alloc)?),
     };
-    let attribute = Attribute {
+    let attribute = DeclaredAttribute {
         category: row.entity.category.copy(alloc)?,
         id: row.attribute.copy(alloc)?,
         datatype: row.datatype,
@@ -178,7 +182,7 @@ impl FaultyLine {
         alloc: Global,
         line: &[u8],
         commands: &[&str],
-        attributes: &[Attribute],
+        attributes: &[DeclaredAttribute],
         listed: &Listed,
     ) -> Result<String, AllocError> {
         match &self.fault {
@@ -215,7 +219,7 @@ impl FaultyLine {
         alloc: Global,
         line: &[u8],
         commands: &[&str],
-        attributes: &[Attribute],
+        attributes: &[DeclaredAttribute],
         listed: &Listed,
     ) -> Result<String, AllocError>
         ensures { IfOk result (λ s. is_one_line (string_bytes s) ≡ true) }

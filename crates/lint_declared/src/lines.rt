@@ -10,10 +10,10 @@ ghost use Rattle.lint_declared.specs.Settings.{setting_of};
 ghost use Rattle.lint_declared.specs.proofs_only.Claims.{claimed_in};
 ghost use Rattle.lint_declared.specs.proofs_only.Settings.{setting_view};
 
-use crate::attribute::Attribute;
+use crate::attribute::DeclaredAttribute;
 use crate::claim::{Claim, note_line, said_by};
-use crate::known::{Known, with_sets};
-use crate::listed::{Listed, Named, category_listed};
+use crate::known::{DeclaredValues, with_sets};
+use crate::listed::{Listed, ListedName, category_listed};
 use crate::setting::{Setting, is_setting, setting_of};
 use crate::stray::{is_foreign, value_in};
 use ent_json::{JsonTree, read_json, text_at};
@@ -35,15 +35,15 @@ pub enum LineFault {
     /// It lists a name, and has none.
     NoName,
     /// The name that it lists is empty or has more than 256 bytes.
-    BadName(Named),
+    BadName(ListedName),
     /// It is an `attr.set` that can't be read.
     Form,
     /// It sets values of an attribute that isn't declared.
-    Undeclared(Attribute),
+    Undeclared(DeclaredAttribute),
     /// Its value of that number, from 0 on, isn't one of the attribute's type, or isn't among those that are listed.
-    Value(Attribute, usize),
+    Value(DeclaredAttribute, usize),
     /// It sets values for a name that isn't listed.
-    Unlisted(Named),
+    Unlisted(ListedName),
     /// It says what the line of that number says already.
     Again(Claim, usize),
 }
@@ -68,14 +68,14 @@ pub struct FaultyLine {
 }
 
 /// Whether an attribute is declared as it is set: with the same issuer, or without one.
-fn is_set_as(set: &Attribute, declared: &Attribute) -> bool
+fn is_set_as(set: &DeclaredAttribute, declared: &DeclaredAttribute) -> bool
     ensures { result ≡ is_set_as set.now declared.now }
 {
     set.finds(declared) && declared.finds(set)
 }
 
 /// Whether one of the attributes is declared as this one is set.
-fn is_declared(attributes: &[Known<'_>], set: &Attribute) -> bool
+fn is_declared(attributes: &[DeclaredValues<'_>], set: &DeclaredAttribute) -> bool
     ensures { result ≡ list_any (is_set_as set.now) attributes.now }
 {
     attributes
@@ -86,8 +86,8 @@ fn is_declared(attributes: &[Known<'_>], set: &Attribute) -> bool
 /// Whether a value isn't one of the attribute's type, or isn't among those that are listed.
 fn is_bad_value<J: JsonTree>(
     alloc: Global,
-    attributes: &[Known<'_>],
-    set: &Attribute,
+    attributes: &[DeclaredValues<'_>],
+    set: &DeclaredAttribute,
     json: &J,
 ) -> Result<bool, AllocError>
     ensures { IfOk result (λ b. b ≡ is_bad_value attributes.now set.now (J.content json.now)) }
@@ -101,8 +101,8 @@ fn is_bad_value<J: JsonTree>(
 /// The number of the first such value.
 fn bad_value<J: JsonTree>(
     alloc: Global,
-    attributes: &[Known<'_>],
-    set: &Attribute,
+    attributes: &[DeclaredValues<'_>],
+    set: &DeclaredAttribute,
     values: &[J],
 ) -> Result<Option<usize>, AllocError>
     ensures { IfOk result (λ o. o ≡ bad_value_from attributes.now set.now 0 (items_of (map J.content values.now))) }
@@ -118,7 +118,7 @@ fn bad_value<J: JsonTree>(
 /// What is wrong with what a line sets.
 fn fault_of_setting<J: JsonTree>(
     alloc: Global,
-    attributes: &[Known<'_>],
+    attributes: &[DeclaredValues<'_>],
     listed: &Listed,
     setting: Setting<'_, J>,
 ) -> Result<Option<LineFault>, AllocError>
@@ -131,7 +131,7 @@ fn fault_of_setting<J: JsonTree>(
         return Ok(Some(LineFault::Value(setting.attribute, number)));
     }
     let category = setting.attribute.category.copy(alloc)?;
-    let name = Named {
+    let name = ListedName {
         category,
         name: setting.entity,
     };
@@ -144,7 +144,7 @@ fn fault_of_setting<J: JsonTree>(
 /// What is wrong with a line of `attr.set`.
 fn fault_of_set<J: JsonTree>(
     alloc: Global,
-    attributes: &[Known<'_>],
+    attributes: &[DeclaredValues<'_>],
     listed: &Listed,
     line: &J,
 ) -> Result<Option<LineFault>, AllocError>
@@ -170,7 +170,7 @@ fn fault_of_name(
     if !is_bad_name(name) {
         return Ok(None);
     }
-    Ok(Some(LineFault::BadName(Named {
+    Ok(Some(LineFault::BadName(ListedName {
         category: Text::from_str(alloc, category)?,
         name: Text::from_str(alloc, name)?,
     })))
@@ -202,7 +202,7 @@ fn fault_of_claim(claims: &BTreeMap<Claim, usize>, said: Option<(Claim, bool)>) 
 /// What is wrong with a line whose command there is.
 fn fault_of_known<J: JsonTree>(
     alloc: Global,
-    attributes: &[Known<'_>],
+    attributes: &[DeclaredValues<'_>],
     listed: &Listed,
     claims: &BTreeMap<Claim, usize>,
     line: &J,
@@ -232,7 +232,7 @@ fn is_known(commands: &[&str], word: &str) -> bool
 fn fault_of_data<J: JsonTree>(
     alloc: Global,
     commands: &[&str],
-    attributes: &[Known<'_>],
+    attributes: &[DeclaredValues<'_>],
     listed: &Listed,
     claims: &BTreeMap<Claim, usize>,
     line: &J,
@@ -253,7 +253,7 @@ fn fault_of_data<J: JsonTree>(
 fn fault_of(
     alloc: Global,
     commands: &[&str],
-    attributes: &[Known<'_>],
+    attributes: &[DeclaredValues<'_>],
     listed: &Listed,
     claims: &BTreeMap<Claim, usize>,
     line: &[u8],
@@ -289,7 +289,7 @@ fn put_fault(
 fn faulty_among(
     alloc: Global,
     commands: &[&str],
-    attributes: &[Known<'_>],
+    attributes: &[DeclaredValues<'_>],
     listed: &Listed,
     lines: &[&[u8]],
 ) -> Result<Vec<FaultyLine>, AllocError>
@@ -319,7 +319,7 @@ fn faulty_among(
 pub fn faulty_lines(
     alloc: Global,
     commands: &[&str],
-    attributes: &[Attribute],
+    attributes: &[DeclaredAttribute],
     listed: &Listed,
     lines: &[&[u8]],
 ) -> Result<Vec<FaultyLine>, AllocError>

@@ -4,7 +4,7 @@ ghost use Rattle.std.specs.Prelude.{◌≡◌, ◌||◌, false, IfOk, OnOk, map,
 ghost use Rattle.std.specs.Option.{option_to_list};
 ghost use Rattle.lint_declared.specs.Settings.{category_listed, has_name, listed_by, names_in};
 ghost use Rattle.ent_json.specs.Line.{data_of};
-ghost use Rattle.lint_declared.specs.declared.listed.Named.{Named};
+ghost use Rattle.lint_declared.specs.declared.listed.ListedName.{ListedName};
 
 use crate::always::{ACCESS_SUBJECT, ACTION, RESOURCE};
 use crate::near::Candidates;
@@ -17,7 +17,7 @@ use std::marker::Model;
 
 /// A name of a person, an action or a resource, by the category of its attributes (appendix B.2).
 #[derive(PartialEq, Eq, PartialOrd, Ord, Drop)]
-pub struct Named {
+pub struct ListedName {
     pub category: Text,
     pub name: Text,
 }
@@ -25,14 +25,14 @@ pub struct Named {
 /// The names of a table.
 #[derive(Drop)]
 pub struct Listed {
-    pub(crate) names: BTreeSet<Named>,
+    pub(crate) names: BTreeSet<ListedName>,
 }
 
 impl Model for Listed {
     ghost use Rattle.std.specs.Prelude.{List};
-    ghost use Rattle.lint_declared.specs.declared.listed.Named.{Named};
+    ghost use Rattle.lint_declared.specs.declared.listed.ListedName.{ListedName};
 
-    ghost Value = { List Named };
+    ghost Value = { List ListedName };
 
     ghost view = { λ l. l.names.keys };
 }
@@ -54,7 +54,10 @@ pub(crate) fn category_listed(word: &str) -> Option<&'static str>
 
 /// The name that a line lists, if it does.
 #[tactic(auto, unfolding(crate::specs::Settings::listed_by))]
-pub(crate) fn listed_by<J: JsonTree>(alloc: Global, line: &J) -> Result<Option<Named>, AllocError>
+pub(crate) fn listed_by<J: JsonTree>(
+    alloc: Global,
+    line: &J,
+) -> Result<Option<ListedName>, AllocError>
     ensures { IfOk result (λ o. o ≡ listed_by (J.content line.now)) }
 {
     let Some(category) = text_at(line, "do").and_then(category_listed) else {
@@ -63,14 +66,14 @@ pub(crate) fn listed_by<J: JsonTree>(alloc: Global, line: &J) -> Result<Option<N
     let Some(name) = text_at(line, "name") else {
         return Ok(None);
     };
-    Ok(Some(Named {
+    Ok(Some(ListedName {
         category: Text::from_str(alloc, category)?,
         name: Text::from_str(alloc, name)?,
     }))
 }
 
 /// The name that the text of a line lists, if it does.
-fn name_in(alloc: Global, line: &[u8]) -> Result<Option<Named>, AllocError>
+fn name_in(alloc: Global, line: &[u8]) -> Result<Option<ListedName>, AllocError>
     ensures { IfOk result (λ o. o ≡ option_and_then listed_by (data_of line.now)) }
 {
     let mut scratch = Scratch::new(alloc);
@@ -81,8 +84,8 @@ fn name_in(alloc: Global, line: &[u8]) -> Result<Option<Named>, AllocError>
 }
 
 /// Adds a name, if there is one.
-fn add(names: &mut BTreeSet<Named>, name: Option<Named>) -> Result<(), AllocError>
-    ensures { OnOk result ((other : Named)
+fn add(names: &mut BTreeSet<ListedName>, name: Option<ListedName>) -> Result<(), AllocError>
+    ensures { OnOk result ((other : ListedName)
         → has_name other names.new.keys ≡ (has_name other names.old.keys || has_name other (option_to_list name))) }
 {
     if let Some(name) = name {
@@ -92,8 +95,12 @@ fn add(names: &mut BTreeSet<Named>, name: Option<Named>) -> Result<(), AllocErro
 }
 
 /// Adds the names that these lines list.
-fn add_all(alloc: Global, names: &mut BTreeSet<Named>, lines: &[&[u8]]) -> Result<(), AllocError>
-    ensures { OnOk result ((name : Named) → has_name name names.new.keys
+fn add_all(
+    alloc: Global,
+    names: &mut BTreeSet<ListedName>,
+    lines: &[&[u8]],
+) -> Result<(), AllocError>
+    ensures { OnOk result ((name : ListedName) → has_name name names.new.keys
         ≡ (has_name name names.old.keys || has_name name (names_in (map (λ l. l.now) lines.now)))) }
 {
     for line in lines {
@@ -108,7 +115,7 @@ impl Listed {
     ///
     /// Its contract is an equation.
     pub fn new(alloc: Global) -> Listed
-        ensures { (name : Named) → has_name name result ≡ false }
+        ensures { (name : ListedName) → has_name name result ≡ false }
     {
         Listed {
             names: BTreeSet::new(alloc),
@@ -118,7 +125,7 @@ impl Listed {
     /// Whether a name is among them, in time logarithmic in their number. It takes no memory.
     ///
     /// Its contract is an equation.
-    pub fn has(&self, name: &Named) -> bool
+    pub fn has(&self, name: &ListedName) -> bool
         ensures { result ≡ has_name name.now self.now }
     {
         self.names.contains(name)
@@ -132,7 +139,7 @@ impl Listed {
     ///
     /// Its contract is an equation but for memory.
     pub fn read(&mut self, alloc: Global, lines: &[&[u8]]) -> Result<(), AllocError>
-        ensures { OnOk result ((name : Named)
+        ensures { OnOk result ((name : ListedName)
             → has_name name self.new
             ≡ (has_name name self.old || has_name name (names_in (map (λ l. l.now) lines.now)))) }
     {
@@ -143,7 +150,7 @@ impl Listed {
     pub(crate) fn nearest(
         &self,
         alloc: Global,
-        wanted: &Named,
+        wanted: &ListedName,
     ) -> Result<Option<Text>, AllocError> {
         let mut candidates = Candidates::new(alloc, wanted.name.as_str());
         for name in &self.names {

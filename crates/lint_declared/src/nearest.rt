@@ -3,7 +3,7 @@
 ghost use Rattle.std.specs.Prelude.{IfOk, IfSome};
 ghost use Rattle.std.specs.List.{Contains};
 
-use crate::attribute::Attribute;
+use crate::attribute::DeclaredAttribute;
 use crate::near::{Candidates, MOST_COMPARED, few_edits};
 use ent_values::{Text, Value};
 use std::alloc::{AllocError, Global};
@@ -33,8 +33,8 @@ fn id_distance(
 /// with the same category, then with the same type. None where the ids have little in common.
 fn distance(
     alloc: Global,
-    wanted: &Attribute,
-    attribute: &Attribute,
+    wanted: &DeclaredAttribute,
+    attribute: &DeclaredAttribute,
     left: &mut usize,
 ) -> Result<Option<usize>, AllocError> {
     let same_category = wanted.category == attribute.category;
@@ -55,9 +55,9 @@ fn distance(
 /// The attribute that is nearest to the one that is wanted, if one is near.
 pub(crate) fn nearest<'a>(
     alloc: Global,
-    wanted: &Attribute,
-    attributes: &'a [Attribute],
-) -> Result<Option<&'a Attribute>, AllocError>
+    wanted: &DeclaredAttribute,
+    attributes: &'a [DeclaredAttribute],
+) -> Result<Option<&'a DeclaredAttribute>, AllocError>
     ensures { IfOk result (λ o. IfSome o (λ a. Contains attributes.now a.now)) }
 {
     let mut nearest = None;
@@ -95,9 +95,9 @@ fn take_values(
 /// The text of the value that is nearest to a text, of those that are listed for what is wanted, if one is near.
 pub(crate) fn nearest_value(
     alloc: Global,
-    wanted: &Attribute,
+    wanted: &DeclaredAttribute,
     text: &str,
-    attributes: &[Attribute],
+    attributes: &[DeclaredAttribute],
 ) -> Result<Option<Text>, AllocError> {
     let mut candidates = Candidates::new(alloc, text);
     for attribute in attributes {

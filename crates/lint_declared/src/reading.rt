@@ -9,7 +9,7 @@ ghost use Rattle.lint_declared.specs.Attributes.{issuer_of};
 ghost use Rattle.lint_declared.specs.Attributes.{name_at, values_from, values_of};
 
 use crate::always::always;
-use crate::attribute::{Attribute, owned};
+use crate::attribute::{DeclaredAttribute, owned};
 use crate::fault::{AttributeFault, AttributesFault};
 use ent_json::{JsonTree, text_at};
 use ent_polform::read_value;
@@ -88,7 +88,7 @@ fn values_at<J: JsonTree>(
 fn attribute<J: JsonTree>(
     alloc: Global,
     object: &J,
-) -> Result<Result<Attribute, AttributeFault>, AllocError>
+) -> Result<Result<DeclaredAttribute, AttributeFault>, AllocError>
     ensures { IfOk result (λ r. r ≡ attribute_of (J.content object.now)) }
 {
     if !object.has_only(&DECLARED_KEYS) {
@@ -111,7 +111,7 @@ fn attribute<J: JsonTree>(
         Err(fault) => return Ok(Err(fault)),
     };
     let issuer = owned(alloc, issuer)?;
-    Ok(Ok(Attribute {
+    Ok(Ok(DeclaredAttribute {
         category: Text::from_str(alloc, category)?,
         id: Text::from_str(alloc, id)?,
         datatype,
@@ -124,7 +124,7 @@ fn attribute<J: JsonTree>(
 fn attributes<J: JsonTree>(
     alloc: Global,
     declarations: &[J],
-) -> Result<Result<Items<Attribute>, AttributesFault>, AllocError>
+) -> Result<Result<Items<DeclaredAttribute>, AttributesFault>, AllocError>
     ensures { IfOk result (λ r. r ≡ behind always (attributes_from 0 (items_of (map J.content declarations.now)))) }
 {
     let mut all = always(alloc)?;
@@ -151,7 +151,7 @@ fn attributes<J: JsonTree>(
 pub fn read_attributes<J: JsonTree>(
     alloc: Global,
     json: &J,
-) -> Result<Result<Items<Attribute>, AttributesFault>, AllocError>
+) -> Result<Result<Items<DeclaredAttribute>, AttributesFault>, AllocError>
     ensures { IfOk result (λ r. r ≡ attributes_of (J.content json.now)) }
 {
     if !json.has_only(&["Attributes"]) {

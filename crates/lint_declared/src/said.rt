@@ -1,7 +1,7 @@
 //! Attributes in words.
 
 use crate::always::{ACCESS_SUBJECT, ACTION, ENVIRONMENT, RESOURCE};
-use crate::attribute::Attribute;
+use crate::attribute::DeclaredAttribute;
 use lint_messages::shortened;
 use std::alloc::{AllocError, Global};
 
@@ -30,7 +30,7 @@ pub(crate) fn said(alloc: Global, text: &str) -> Result<String, AllocError> {
 }
 
 /// An attribute as it is asked for: id, data type, issuer and category.
-pub(crate) fn name(alloc: Global, attribute: &Attribute) -> Result<String, AllocError> {
+pub(crate) fn name(alloc: Global, attribute: &DeclaredAttribute) -> Result<String, AllocError> {
     let id = said(alloc, attribute.id.as_str())?;
     let datatype = attribute.datatype.short_name();
     let category = said(alloc, category_word(attribute.category.as_str()))?;
@@ -44,7 +44,11 @@ pub(crate) fn name(alloc: Global, attribute: &Attribute) -> Result<String, Alloc
 }
 
 /// What is declared under the same id.
-fn same_id(alloc: Global, wanted: &Attribute, declared: &Attribute) -> Result<String, AllocError> {
+fn same_id(
+    alloc: Global,
+    wanted: &DeclaredAttribute,
+    declared: &DeclaredAttribute,
+) -> Result<String, AllocError> {
     let id = declared.id.as_str().escape_debug();
     let datatype = declared.datatype.short_name();
     let category = declared.category.as_str().escape_debug();
@@ -71,8 +75,8 @@ fn same_id(alloc: Global, wanted: &Attribute, declared: &Attribute) -> Result<St
 /// What is declared in the place of the attribute that is wanted.
 pub(crate) fn hint(
     alloc: Global,
-    wanted: &Attribute,
-    declared: &Attribute,
+    wanted: &DeclaredAttribute,
+    declared: &DeclaredAttribute,
 ) -> Result<String, AllocError> {
     if wanted.id == declared.id {
         return same_id(alloc, wanted, declared);

@@ -7,7 +7,7 @@ ghost use Rattle.lint_declared.specs.Settings.{category_of, is_setting, setting_
 ghost use Rattle.lint_declared.specs.proofs_only.Settings.{setting_view};
 
 use crate::always::{ACCESS_SUBJECT, ACTION, RESOURCE};
-use crate::attribute::{Attribute, owned};
+use crate::attribute::{DeclaredAttribute, owned};
 use ent_json::{JsonTree, text_at, text_or_absent};
 use ent_values::{DataType, Text};
 use std::alloc::{AllocError, Global};
@@ -15,7 +15,7 @@ use std::alloc::{AllocError, Global};
 /// What a line sets. Its values stay where they are in the line's JSON.
 #[derive(Drop)]
 pub(crate) struct Setting<'a, J> {
-    pub(crate) attribute: Attribute,
+    pub(crate) attribute: DeclaredAttribute,
     pub(crate) entity: Text,
     pub(crate) values: &'a [J],
 }
@@ -70,7 +70,7 @@ pub(crate) fn setting_of<'a, J: JsonTree>(
         return Ok(None);
     }
     let issuer = owned(alloc, text_at(line, "issuer"))?;
-    let attribute = Attribute {
+    let attribute = DeclaredAttribute {
         category: Text::from_str(alloc, category)?,
         id: Text::from_str(alloc, id)?,
         datatype,

@@ -8,10 +8,10 @@ ghost use Rattle.lint_declared.specs.Compared.{designators, is_foreign, lists, l
 ghost use Rattle.lint_declared.specs.proofs_only.Found.{StraysFrom, StraysIn, StraysOf};
 ghost use Rattle.lint_declared.specs.proofs_only.Placed.{place_of, places_of};
 
-use crate::attribute::{Attribute, asked};
+use crate::attribute::{DeclaredAttribute, asked};
 use crate::compared::{Placed, compared};
 use crate::designator::Undeclared;
-use crate::known::Known;
+use crate::known::DeclaredValues;
 use ent_json::JsonTree;
 use ent_polform::read_value;
 use ent_values::{DataType, Text, Value, ValueFault};
@@ -19,21 +19,21 @@ use lint_places::Part;
 use std::alloc::{AllocError, Global};
 
 /// Whether an attribute is asked for whose values are listed.
-fn finds_listing(wanted: &Attribute, attribute: &Known<'_>) -> bool
+fn finds_listing(wanted: &DeclaredAttribute, attribute: &DeclaredValues<'_>) -> bool
     ensures { result ≡ (finds wanted.now attribute.now && lists_values attribute.now) }
 {
     wanted.finds(attribute.attribute()) && attribute.lists_values()
 }
 
 /// Whether an attribute is asked for that lists a value.
-fn finds_value(wanted: &Attribute, attribute: &Known<'_>, value: &Value) -> bool
+fn finds_value(wanted: &DeclaredAttribute, attribute: &DeclaredValues<'_>, value: &Value) -> bool
     ensures { result ≡ (finds wanted.now attribute.now && lists value.now attribute.now) }
 {
     wanted.finds(attribute.attribute()) && attribute.lists(value)
 }
 
 /// Whether values are listed for what is wanted.
-fn is_listing(attributes: &[Known<'_>], wanted: &Attribute) -> bool
+fn is_listing(attributes: &[DeclaredValues<'_>], wanted: &DeclaredAttribute) -> bool
     ensures { result ≡ list_any (λ a. finds wanted.now a && lists_values a) attributes.now }
 {
     attributes
@@ -42,7 +42,7 @@ fn is_listing(attributes: &[Known<'_>], wanted: &Attribute) -> bool
 }
 
 /// Whether a value is among those that are listed for what is wanted.
-fn is_listed(attributes: &[Known<'_>], wanted: &Attribute, value: &Value) -> bool
+fn is_listed(attributes: &[DeclaredValues<'_>], wanted: &DeclaredAttribute, value: &Value) -> bool
     ensures { result ≡ list_any (λ a. finds wanted.now a && lists value.now a) attributes.now }
 {
     attributes
@@ -51,7 +51,11 @@ fn is_listed(attributes: &[Known<'_>], wanted: &Attribute, value: &Value) -> boo
 }
 
 /// Whether values are listed for what is wanted, and this one is none of them.
-pub(crate) fn is_foreign(attributes: &[Known<'_>], wanted: &Attribute, value: &Value) -> bool
+pub(crate) fn is_foreign(
+    attributes: &[DeclaredValues<'_>],
+    wanted: &DeclaredAttribute,
+    value: &Value,
+) -> bool
     ensures { result ≡ is_foreign attributes.now wanted.now value.now }
 {
     is_listing(attributes, wanted) && !is_listed(attributes, wanted, value)
@@ -89,7 +93,7 @@ fn literal_as<J: JsonTree>(
 /// What is told of a literal that is compared with a designator, if it is none of the values that are listed for it.
 fn stray<J: JsonTree>(
     alloc: Global,
-    attributes: &[Known<'_>],
+    attributes: &[DeclaredValues<'_>],
     designator: &Placed<'_, J>,
     literal: &Placed<'_, J>,
 ) -> Result<Option<Undeclared>, AllocError>
@@ -115,7 +119,7 @@ fn stray<J: JsonTree>(
 /// The first of these designators for which a literal is none of the values that are listed.
 fn stray_of<J: JsonTree>(
     alloc: Global,
-    attributes: &[Known<'_>],
+    attributes: &[DeclaredValues<'_>],
     designators: &[Placed<'_, J>],
     literal: &Placed<'_, J>,
 ) -> Result<Option<Undeclared>, AllocError>
@@ -133,7 +137,7 @@ fn stray_of<J: JsonTree>(
 /// The first of these literals that is none of the values that are listed for one of the designators.
 fn first_stray<J: JsonTree>(
     alloc: Global,
-    attributes: &[Known<'_>],
+    attributes: &[DeclaredValues<'_>],
     designators: &[Placed<'_, J>],
     literals: &[Placed<'_, J>],
 ) -> Result<Option<Undeclared>, AllocError>
@@ -154,7 +158,7 @@ pub(crate) fn stray_in<J: JsonTree>(
     pointer: &str,
     part: Part,
     json: &J,
-    attributes: &[Known<'_>],
+    attributes: &[DeclaredValues<'_>],
 ) -> Result<Option<Undeclared>, AllocError>
     ensures { IfOk result (λ o. StraysIn attributes.now (literals part (pointer.now, J.content json.now))
         (designators part (pointer.now, J.content json.now)) o) }

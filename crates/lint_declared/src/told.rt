@@ -5,7 +5,7 @@ ghost use Rattle.lint_declared.specs.Attributes.{pointer_of};
 ghost use Rattle.lint_declared.specs.Saying.{IsToldAt};
 ghost use Rattle.lint_messages.specs.Told.{is_one_line};
 
-use crate::attribute::Attribute;
+use crate::attribute::DeclaredAttribute;
 use crate::designator::Undeclared;
 use crate::fault::{AttributeFault, AttributesFault};
 use crate::nearest::{nearest, nearest_value};
@@ -34,8 +34,8 @@ fn told_at(
 /// That an attribute isn't declared, and what is in its place.
 pub(crate) fn undeclared_sentence(
     alloc: Global,
-    wanted: &Attribute,
-    attributes: &[Attribute],
+    wanted: &DeclaredAttribute,
+    attributes: &[DeclaredAttribute],
 ) -> Result<String, AllocError> {
     let name = name(alloc, wanted)?;
     match nearest(alloc, wanted, attributes)? {
@@ -50,9 +50,9 @@ pub(crate) fn undeclared_sentence(
 /// That a value isn't among those that are listed for an attribute, and which is near.
 pub(crate) fn value_sentence(
     alloc: Global,
-    wanted: &Attribute,
+    wanted: &DeclaredAttribute,
     text: &str,
-    attributes: &[Attribute],
+    attributes: &[DeclaredAttribute],
 ) -> Result<String, AllocError> {
     let name = name(alloc, wanted)?;
     let shown = said(alloc, text)?;
@@ -67,7 +67,11 @@ pub(crate) fn value_sentence(
 
 impl Undeclared {
     /// What is said of it.
-    fn sentence(&self, alloc: Global, attributes: &[Attribute]) -> Result<String, AllocError> {
+    fn sentence(
+        &self,
+        alloc: Global,
+        attributes: &[DeclaredAttribute],
+    ) -> Result<String, AllocError> {
         match (&self.asked, &self.value) {
             (Some(wanted), Some(value)) => {
                 let text = value.text(alloc)?;
@@ -93,7 +97,7 @@ impl Undeclared {
     pub fn told(
         &self,
         alloc: Global,
-        attributes: &[Attribute],
+        attributes: &[DeclaredAttribute],
         position: Option<(usize, usize)>,
     ) -> Result<String, AllocError>
         ensures { IfOk result (λ s. IsToldAt self.now.pointer (string_bytes s)) }

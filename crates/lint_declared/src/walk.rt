@@ -8,9 +8,9 @@ ghost use Rattle.lint_places.specs.Told.{Scope};
 ghost use Rattle.lint_declared.specs.Undeclared.{Finds, FindsHere, FindsIn, is_designator, spot};
 ghost use Rattle.lint_declared.specs.proofs_only.Found.{FindsDesignator};
 
-use crate::attribute::{Attribute, asked, finds_one};
+use crate::attribute::{DeclaredAttribute, asked, finds_one};
 use crate::designator::Undeclared;
-use crate::known::{Known, with_sets};
+use crate::known::{DeclaredValues, with_sets};
 use crate::stray::stray_in;
 use ent_json::JsonTree;
 use ent_values::Text;
@@ -30,7 +30,7 @@ fn undeclared_here<J: JsonTree>(
     pointer: &str,
     part: Part,
     json: &J,
-    attributes: &[Known<'_>],
+    attributes: &[DeclaredValues<'_>],
 ) -> Result<Option<Undeclared>, AllocError>
     ensures { IfOk result (λ o. (scope : Scope)
         → FindsDesignator attributes.now (spot pointer.now part scope (J.content json.now)) o) }
@@ -56,7 +56,7 @@ fn here<J: JsonTree>(
     pointer: &str,
     part: Part,
     json: &J,
-    attributes: &[Known<'_>],
+    attributes: &[DeclaredValues<'_>],
 ) -> Result<Option<Undeclared>, AllocError>
     ensures { IfOk result (λ o. (scope : Scope)
         → FindsHere attributes.now (spot pointer.now part scope (J.content json.now)) o) }
@@ -74,7 +74,7 @@ fn in_part<J: JsonTree>(
     pointer: &str,
     part: Part,
     json: &J,
-    attributes: &[Known<'_>],
+    attributes: &[DeclaredValues<'_>],
 ) -> Result<Option<Undeclared>, AllocError>
     ensures { IfOk result (λ o. (scope : Scope)
         → Finds attributes.now (spot pointer.now part scope (J.content json.now)) o) }
@@ -95,7 +95,7 @@ fn at_keys<J: JsonTree>(
     pointer: &str,
     part: Part,
     json: &J,
-    attributes: &[Known<'_>],
+    attributes: &[DeclaredValues<'_>],
 ) -> Result<Option<Undeclared>, AllocError>
     ensures { IfOk result (λ o. (scope : Scope)
         → FindsIn attributes.now (at_keys (spot pointer.now part scope (J.content json.now))) o) }
@@ -116,7 +116,7 @@ fn at_key<J: JsonTree>(
     row: (&str, Part),
     part: Part,
     json: &J,
-    attributes: &[Known<'_>],
+    attributes: &[DeclaredValues<'_>],
 ) -> Result<Option<Undeclared>, AllocError>
     ensures { IfOk result (λ o. (scope : Scope) → FindsIn attributes.now
         (at_key (spot pointer.now part scope (J.content json.now)) (row.entry.0.now, row.entry.1)
@@ -139,7 +139,7 @@ fn in_list<J: JsonTree>(
     pointer: &str,
     part: Part,
     json: &J,
-    attributes: &[Known<'_>],
+    attributes: &[DeclaredValues<'_>],
 ) -> Result<Option<Undeclared>, AllocError>
     ensures { IfOk result (λ o. (scope : Scope) → FindsIn attributes.now
         (in_list (spot pointer.now part scope (J.content json.now)) (item part)) o) }
@@ -166,7 +166,7 @@ fn at_number<J: JsonTree>(
     number: usize,
     part: Part,
     json: &J,
-    attributes: &[Known<'_>],
+    attributes: &[DeclaredValues<'_>],
 ) -> Result<Option<Undeclared>, AllocError>
     ensures { IfOk result (λ o. (scope : Scope) → Finds attributes.now
         (spot (pointer.now ++ codes "/" ++ decimal number) part scope (J.content json.now)) o) }
@@ -179,7 +179,7 @@ fn at_number<J: JsonTree>(
 fn undeclared_in<J: JsonTree>(
     alloc: Global,
     json: &J,
-    attributes: &[Known<'_>],
+    attributes: &[DeclaredValues<'_>],
 ) -> Result<Option<Undeclared>, AllocError>
     ensures { IfOk result (λ o. Finds attributes.now (whole (J.content json.now)) o) }
 {
@@ -198,7 +198,7 @@ fn undeclared_in<J: JsonTree>(
 pub fn undeclared<J: JsonTree>(
     alloc: Global,
     json: &J,
-    attributes: &[Attribute],
+    attributes: &[DeclaredAttribute],
 ) -> Result<Option<Undeclared>, AllocError>
     ensures { IfOk result (λ o. Finds attributes.now (whole (J.content json.now)) o) }
 {

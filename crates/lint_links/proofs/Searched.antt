@@ -9,23 +9,23 @@ use Rattle.ent_policy.specs.Same.{same_reference}
 use Rattle.ent_policy.specs.contracts.key.ReferenceOrd.TheImpl.Laws.{matches_eq-law}
 use Rattle.ent_policy.specs.declared.key.Reference.{Reference}
 use Rattle.ent_finder.specs.Slots.{Docs}
-use Rattle.lint_links.specs.declared.found.Found.{Found}
+use Rattle.lint_links.specs.declared.found.FoundDocuments.{FoundDocuments}
 use Rattle.lint_links.specs.proofs_only.Found.{AreFound, IsFound, reference_cmp}
 
 some_same : {A : Type 0} (x y : A) → Some x ≡ Some y → x ≡ y
 some_same x y e = cc
 
 -- of none
-pub found_none : (docs : Docs) (f : Found) → f.numbers.entries ≡ [] → AreFound docs f
+pub found_none : (docs : Docs) (f : FoundDocuments) → f.numbers.entries ≡ [] → AreFound docs f
 found_none docs f none = λ r n there. absurd cc
 
 -- numbers of which one more is known than before
-abbrev pub HasOneMore : Found → Found → Reference → Option ℕ → Type 0
+abbrev pub HasOneMore : FoundDocuments → FoundDocuments → Reference → Option ℕ → Type 0
 HasOneMore before after r n = (q : Reference)
     → get reference_cmp after.numbers q ≡ cond (is_eq (reference_cmp r q)) (Some n) (get reference_cmp before.numbers q)
 
 -- of one more
-pub found_more : (docs : Docs) (before after : Found) (r : Reference) (n : Option ℕ) → AreFound docs before → IsFound docs r n
+pub found_more : (docs : Docs) (before after : FoundDocuments) (r : Reference) (n : Option ℕ) → AreFound docs before → IsFound docs r n
     → HasOneMore before after r n → AreFound docs after
 found_more docs before after r n found this updates =
     λ q m there. by q m (same_reference r q) refl (ap (λ b. cond b (Some n) (get reference_cmp before.numbers q)) (matches_eq-law r q) ∙ sym (updates q) ∙ there) where

@@ -16,7 +16,7 @@ use Rattle.ent_policy.specs.declared.key.Reference.{Reference}
 use Rattle.ent_polform.specs.Form.{document_of}
 use Rattle.ent_polform.specs.Reference.{reference_of}
 use Rattle.ent_finder.specs.Slots.{Slots}
-use Rattle.lint_links.specs.declared.state.State.{State}
+use Rattle.lint_links.specs.declared.state.StoredState.{StoredState}
 
 -- documents by key, as if one module held them, and the root
 pub record Stored : Type 0 where
@@ -24,7 +24,7 @@ pub record Stored : Type 0 where
   pub root : Option Reference
 
 -- what a state holds
-abbrev pub stored_in : State → Stored
+abbrev pub stored_in : StoredState → Stored
 stored_in s = record { slots = s.docs; root = s.root }
 
 -- no documents, and no root

@@ -17,18 +17,18 @@ use std::collections::BTreeMap;
 
 /// The numbers of the documents that references find, of those references that were looked for.
 #[derive(Drop)]
-pub struct Found {
+pub struct FoundDocuments {
     numbers: BTreeMap<Reference, Option<usize>>,
 }
 
-impl Found {
+impl FoundDocuments {
     /// No reference was looked for.
     ///
     /// Its contract leaves open: what stands in it: any that found nothing would do.
-    pub fn new(alloc: Global) -> Found
+    pub fn new(alloc: Global) -> FoundDocuments
         ensures { (docs : Docs) → AreFound docs result }
     {
-        Found {
+        FoundDocuments {
             numbers: BTreeMap::new(alloc),
         }
     }

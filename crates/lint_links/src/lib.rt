@@ -18,5 +18,5 @@ pub use law::{endless_is_without_end, unfound_references_find_none};
 pub use missing::unfound;
 pub use placed::{PlacedReference, references_of};
 pub use root::unreached;
-pub use state::{State, StateFault};
-pub use together::{Together, Told};
+pub use state::{StateFault, StoredState};
+pub use together::{Together, ToldLinks};

@@ -12,7 +12,7 @@ ghost use Rattle.lint_links.specs.proofs_only.Rows.{IsRow, entry_of, flags_after
 ghost use Rattle.lint_links.specs.proofs_only.Rows.{rows_lead};
 
 use crate::counts::counts_after;
-use crate::found::Found;
+use crate::found::FoundDocuments;
 use crate::held::{Held, held_in};
 use crate::placed::references_of;
 use ent_finder::{MapDocs, PolicyFinderModule};
@@ -32,7 +32,7 @@ pub struct Links {
     /// How many documents may be followed from it over at most so many references as was asked for.
     pub followed: Vec<u64>,
     /// Which documents the references find.
-    pub found: Found,
+    pub found: FoundDocuments,
 }
 
 /// So many references are followed one after the other, from the document of the root on.
@@ -76,7 +76,7 @@ fn row(
     alloc: Global,
     docs: &MapDocs,
     all: &[Held<'_>],
-    found: &mut Found,
+    found: &mut FoundDocuments,
     document: &Document,
 ) -> Result<Vec<usize>, AllocError>
     requires listed { map entry_of all.now ≡ entries (held docs.now) }
@@ -99,7 +99,7 @@ fn rows(
     alloc: Global,
     docs: &MapDocs,
     all: &[Held<'_>],
-    found: &mut Found,
+    found: &mut FoundDocuments,
 ) -> Result<Vec<Vec<usize>>, AllocError>
     requires listed { map entry_of all.now ≡ entries (held docs.now) }
     requires found { AreFound (held docs.now) found.old }
@@ -197,7 +197,7 @@ impl Links {
         ensures found { IfOk result (λ l. AreFound (held docs.now) l.found) }
     {
         let all = held_in(alloc, docs)?;
-        let mut found = Found::new(alloc);
+        let mut found = FoundDocuments::new(alloc);
         let rows = rows(alloc, docs, all.as_slice(), &mut found)?;
         let long = flags_after(alloc, rows.as_slice(), hops)?;
         let endless = flags_after(alloc, rows.as_slice(), rows.len())?;

@@ -6,7 +6,7 @@ ghost use Rattle.lint_links.specs.Together.{finds_none, namesakes, unfound};
 ghost use Rattle.lint_links.specs.proofs_only.Found.{AreFound};
 ghost use Rattle.lint_links.specs.proofs_only.Rows.{entry_of};
 
-use crate::found::Found;
+use crate::found::FoundDocuments;
 use crate::held::Held;
 use crate::placed::{PlacedReference, references_of};
 use ent_finder::MapDocs;
@@ -15,7 +15,7 @@ use ent_values::Items;
 use std::alloc::{AllocError, Global};
 
 /// Whether a reference finds none of the documents.
-fn finds_none(docs: &MapDocs, found: &Found, placed: &PlacedReference) -> bool
+fn finds_none(docs: &MapDocs, found: &FoundDocuments, placed: &PlacedReference) -> bool
     requires { AreFound (held docs.now) found.now }
     ensures { result ≡ finds_none (held docs.now) placed.now }
 {
@@ -37,14 +37,14 @@ pub fn unfound(
 ) -> Result<Items<PlacedReference>, AllocError>
     ensures { IfOk result (λ all. all ≡ unfound (held docs.now) document.now) }
 {
-    unfound_among(alloc, docs, &Found::new(alloc), document)
+    unfound_among(alloc, docs, &FoundDocuments::new(alloc), document)
 }
 
 /// Those that `unfound` gives, where some references were looked for before.
 pub(crate) fn unfound_among(
     alloc: Global,
     docs: &MapDocs,
-    found: &Found,
+    found: &FoundDocuments,
     document: &Document,
 ) -> Result<Items<PlacedReference>, AllocError>
     requires { AreFound (held docs.now) found.now }

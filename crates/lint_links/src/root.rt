@@ -5,7 +5,7 @@ ghost use Rattle.std.specs.FinMap.{entries};
 ghost use Rattle.std.specs.List.{filter};
 ghost use Rattle.ent_finder.specs.Slots.{held};
 ghost use Rattle.lint_reach.specs.Reached.{has_place, is_reached};
-ghost use Rattle.lint_reach.specs.declared.place.Place.{Place};
+ghost use Rattle.lint_reach.specs.declared.place.DocPlace.{DocPlace};
 ghost use Rattle.lint_links.specs.Root.{unreached};
 ghost use Rattle.lint_links.specs.proofs_only.Root.{place_of};
 
@@ -13,7 +13,7 @@ use crate::held::held_in;
 use ent_finder::{MapDocs, Policies, PolicyFinder, PolicyFinderModule};
 use ent_policy::{DocKey, Reference};
 use ent_values::Items;
-use lint_reach::{Place, Reached, reached_places};
+use lint_reach::{DocPlace, Reached, reached_places};
 use std::alloc::{AllocError, Global};
 
 /// The keys of the documents of a module, in their order.
@@ -51,7 +51,7 @@ fn put_outside(
     ensures { OnOk result (left.new
         ≡ left.old ++ filter (λ k. not (has_place (place_of k) reached.now)) (key.now ∷ [])) }
 {
-    let place = Place {
+    let place = DocPlace {
         number: 0,
         key: key.copy(alloc)?,
     };
@@ -78,7 +78,7 @@ fn keys_outside(
 
 /// The places of these documents, in one module, to which the root leads.
 fn reached_in(alloc: Global, docs: MapDocs, root: &Option<Reference>) -> Result<Reached, AllocError>
-    ensures { IfOk result (λ r. (place : Place) → has_place place r ≡ is_reached (held docs ∷ []) root.now place) }
+    ensures { IfOk result (λ r. (place : DocPlace) → has_place place r ≡ is_reached (held docs ∷ []) root.now place) }
 {
     let finder = finder_over(alloc, Box::new(alloc, docs)?)?;
     reached_places(alloc, &finder, root)

@@ -17,7 +17,7 @@ use std::alloc::{AllocError, Global};
 
 /// What the lines of a state hold of documents.
 #[derive(Drop)]
-pub struct State {
+pub struct StoredState {
     /// The documents, as if one module held them.
     pub docs: MapDocs,
     /// What the root refers to, if there is one.
@@ -35,21 +35,21 @@ pub enum StateFault {
 
 /// Why a line can't be read.
 #[derive(Clone, Copy)]
-enum LineFault {
+enum StateLineFault {
     /// It isn't one of a dump.
     NotDump,
     /// Memory was wanting.
     Memory,
 }
 
-impl LineFault {
+impl StateLineFault {
     /// The same of the line of this number.
     fn at(self, number: usize) -> StateFault
         ensures { IsNotDump result → IsNotOfDump self }
     {
         match self {
-            LineFault::NotDump => StateFault::NotDump(number),
-            LineFault::Memory => StateFault::Memory,
+            StateLineFault::NotDump => StateFault::NotDump(number),
+            StateLineFault::Memory => StateFault::Memory,
         }
     }
 }
@@ -64,49 +64,49 @@ pub(crate) fn put(alloc: Global, docs: &mut MapDocs, document: Document) -> Resu
     Ok(document.is_some())
 }
 
-impl State {
+impl StoredState {
     /// No documents and no root.
     ///
     /// Its contract is an equation.
-    pub fn new(alloc: Global) -> State
+    pub fn new(alloc: Global) -> StoredState
         ensures { stored_in result ≡ nothing }
     {
-        State {
+        StoredState {
             docs: MapDocs::new(alloc),
             root: None,
         }
     }
 
     /// Reads a line that adds a document.
-    fn add<J: JsonTree>(&mut self, alloc: Global, line: &J) -> Result<(), LineFault>
+    fn add<J: JsonTree>(&mut self, alloc: Global, line: &J) -> Result<(), StateLineFault>
         ensures ok { OnOk result (added (stored_in self.old) (get (codes "document") (J.content line.now))
             ≡ Some (stored_in self.new)) }
         ensures err { IfErr result (λ e. IsNotOfDump e
             → added (stored_in self.old) (get (codes "document") (J.content line.now)) ≡ None) }
     {
         let Some(json) = line.get("document") else {
-            return Err(LineFault::NotDump);
+            return Err(StateLineFault::NotDump);
         };
         let document = match read_document(alloc, json) {
             Ok(document) => document,
-            Err(CheckFault::Doc(_)) => return Err(LineFault::NotDump),
-            Err(CheckFault::Memory) => return Err(LineFault::Memory),
+            Err(CheckFault::Doc(_)) => return Err(StateLineFault::NotDump),
+            Err(CheckFault::Memory) => return Err(StateLineFault::Memory),
         };
         match put(alloc, &mut self.docs, document) {
             Ok(_) => Ok(()),
-            Err(_) => Err(LineFault::Memory),
+            Err(_) => Err(StateLineFault::Memory),
         }
     }
 
     /// Reads a line that sets the root.
-    fn set_root<J: JsonTree>(&mut self, alloc: Global, line: &J) -> Result<(), LineFault>
+    fn set_root<J: JsonTree>(&mut self, alloc: Global, line: &J) -> Result<(), StateLineFault>
         ensures ok { OnOk result (rooted (stored_in self.old) (get (codes "reference") (J.content line.now))
             ≡ Some (stored_in self.new)) }
         ensures err { IfErr result (λ e. IsNotOfDump e
             → rooted (stored_in self.old) (get (codes "reference") (J.content line.now)) ≡ None) }
     {
         let Some(json) = line.get("reference") else {
-            return Err(LineFault::NotDump);
+            return Err(StateLineFault::NotDump);
         };
         if json.is_null() {
             self.root = None;
@@ -117,20 +117,20 @@ impl State {
                 self.root = Some(reference);
                 Ok(())
             }
-            Err(CheckFault::Doc(_)) => Err(LineFault::NotDump),
-            Err(CheckFault::Memory) => Err(LineFault::Memory),
+            Err(CheckFault::Doc(_)) => Err(StateLineFault::NotDump),
+            Err(CheckFault::Memory) => Err(StateLineFault::Memory),
         }
     }
 
     /// Reads the JSON of a line of a dump, of which those on documents and the root count here.
-    fn read<J: JsonTree>(&mut self, alloc: Global, line: &J) -> Result<(), LineFault>
+    fn read<J: JsonTree>(&mut self, alloc: Global, line: &J) -> Result<(), StateLineFault>
         ensures ok { OnOk result (after_data (stored_in self.old) (J.content line.now)
             ≡ Some (stored_in self.new)) }
         ensures err { IfErr result (λ e. IsNotOfDump e
             → after_data (stored_in self.old) (J.content line.now) ≡ None) }
     {
         let Some(word) = text_at(line, "do") else {
-            return Err(LineFault::NotDump);
+            return Err(StateLineFault::NotDump);
         };
         match word {
             "policy.add" => self.add(alloc, line),
@@ -142,12 +142,12 @@ impl State {
             | "attr.set"
             | "day.set"
             | "moment.set" => Ok(()),
-            _ => Err(LineFault::NotDump),
+            _ => Err(StateLineFault::NotDump),
         }
     }
 
     /// Reads a line of a dump. An empty one counts for nothing.
-    fn read_line(&mut self, alloc: Global, line: &[u8]) -> Result<(), LineFault>
+    fn read_line(&mut self, alloc: Global, line: &[u8]) -> Result<(), StateLineFault>
         ensures ok { OnOk result (after_line (stored_in self.old) line.now ≡ Some (stored_in self.new)) }
         ensures err { IfErr result (λ e. IsNotOfDump e → after_line (stored_in self.old) line.now ≡ None) }
     {
@@ -157,8 +157,8 @@ impl State {
         let mut scratch = Scratch::new(alloc);
         match read_json(alloc, line, &mut scratch) {
             Ok(Some(json)) => self.read(alloc, &json),
-            Ok(None) => Err(LineFault::NotDump),
-            Err(_) => Err(LineFault::Memory),
+            Ok(None) => Err(StateLineFault::NotDump),
+            Err(_) => Err(StateLineFault::Memory),
         }
     }
 
@@ -180,11 +180,11 @@ impl State {
     /// The number of the first line that isn't one of a dump; or memory runs out.
     ///
     /// Its contract is an equation but for memory.
-    pub fn of(alloc: Global, text: &[u8]) -> Result<State, StateFault>
+    pub fn of(alloc: Global, text: &[u8]) -> Result<StoredState, StateFault>
         ensures ok { IfOk result (λ state. stored_of text.now ≡ Some (stored_in state)) }
         ensures err { IfErr result (λ e. IsNotDump e → stored_of text.now ≡ None) }
     {
-        let mut state = State::new(alloc);
+        let mut state = StoredState::new(alloc);
         let mut number = 0usize;
         for line in text.split(|byte| *byte == b'\n') {
             number = number.saturating_add(1);

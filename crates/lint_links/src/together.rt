@@ -17,7 +17,7 @@ use crate::links::{Links, MOST_HOPS, is_set};
 use crate::missing::unfound_among;
 use crate::root::unreached;
 use crate::sentences::{endless_sentence, named, unfound_sentence, unreached_sentence};
-use crate::state::{State, put};
+use crate::state::{StoredState, put};
 use ent_finder::PolicyFinderModule;
 use ent_json::read_json;
 use ent_polform::read_document;
@@ -52,7 +52,7 @@ struct Origin<'a> {
 #[derive(Drop)]
 pub struct Together<'a> {
     alloc: Global,
-    state: State,
+    state: StoredState,
     /// What the state is called.
     name: &'a str,
     files: Vec<Origin<'a>>,
@@ -60,7 +60,7 @@ pub struct Together<'a> {
 
 /// What is told of documents together.
 #[derive(Drop)]
-pub struct Told {
+pub struct ToldLinks {
     /// What is wrong, a line each.
     pub faults: Vec<String>,
     /// What isn't wrong, but may not be meant.
@@ -95,7 +95,7 @@ impl<'a> Together<'a> {
     /// The documents of a state, which is called so.
     ///
     /// Its contract is an equation.
-    pub fn new(alloc: Global, name: &'a str, state: State) -> Together<'a>
+    pub fn new(alloc: Global, name: &'a str, state: StoredState) -> Together<'a>
         ensures state { result.state ≡ state }
         ensures files { file_keys result ≡ [] }
     {
@@ -293,7 +293,7 @@ impl<'a> Together<'a> {
     ///
     /// Its contract leaves open: the texts of faults and warnings, and in which order they stand; how many faults there
     /// are is said.
-    pub fn told(self) -> Result<Told, AllocError>
+    pub fn told(self) -> Result<ToldLinks, AllocError>
         ensures { IfOk result (λ told. vec_len told.faults
             ≡ faults_together (held self.entry.state.docs)
             + root_faults (held self.entry.state.docs) self.entry.state.root) }
@@ -303,7 +303,7 @@ impl<'a> Together<'a> {
         let faults = self.faults(&links)?;
         let mut warnings = self.many(&links)?;
         tell_unreached(self, &mut warnings)?;
-        Ok(Told { faults, warnings })
+        Ok(ToldLinks { faults, warnings })
     }
 }
 
@@ -315,7 +315,7 @@ fn tell_unreached(together: Together<'_>, lines: &mut Vec<String>) -> Result<(),
         name,
         files,
     } = together;
-    let State { docs, root } = state;
+    let StoredState { docs, root } = state;
     if root.is_none() {
         return Ok(());
     }

@@ -5,7 +5,7 @@ use std::alloc::Global;
 
 /// A place at which a document has a fault.
 #[derive(Drop)]
-pub(crate) struct Asked<'a, J> {
+pub(crate) struct FaultPlace<'a, J> {
     pub(crate) alloc: Global,
     /// What stands there is for this.
     pub(crate) part: Part,
@@ -22,15 +22,15 @@ pub(crate) struct Asked<'a, J> {
 
 /// What is wrong there.
 #[derive(Drop)]
-pub(crate) struct Found<'a> {
+pub(crate) struct FoundFault<'a> {
     pub(crate) sentence: String,
     /// The text of the document from what is wrong on.
     pub(crate) text: &'a [u8],
 }
 
 /// It is wrong where it was asked.
-pub(crate) fn here<'a, J>(asked: &Asked<'a, J>, sentence: String) -> Found<'a> {
-    Found {
+pub(crate) fn here<'a, J>(asked: &FaultPlace<'a, J>, sentence: String) -> FoundFault<'a> {
+    FoundFault {
         sentence,
         text: asked.text,
     }

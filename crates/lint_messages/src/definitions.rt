@@ -1,6 +1,6 @@
 //! The first fault in the variable definitions of a policy, where the place of the fault is one of them or all of them.
 
-use crate::asked::{Asked, Found, here};
+use crate::asked::{FaultPlace, FoundFault, here};
 use crate::position::text_at;
 use crate::scan::{MOST_OPEN, Members};
 use crate::typing::own_type_sentence;
@@ -16,9 +16,9 @@ const MOST: usize = 256;
 
 /// What is wrong in the first definition that has such a fault, where the place is among definitions.
 pub(crate) fn definition_fault<'a, J: JsonTree>(
-    asked: &Asked<'a, J>,
+    asked: &FaultPlace<'a, J>,
     fault: DocFault,
-) -> Result<Option<Found<'a>>, AllocError> {
+) -> Result<Option<FoundFault<'a>>, AllocError> {
     let definitions = match asked.part {
         Part::Definitions => asked.json.as_array().unwrap_or(&[]),
         Part::Definition => asked.definitions,
@@ -29,7 +29,7 @@ pub(crate) fn definition_fault<'a, J: JsonTree>(
     }
     let mut members = Members::of(asked.list);
     for definition in definitions {
-        let inner = Asked {
+        let inner = FaultPlace {
             alloc: asked.alloc,
             part: Part::Definition,
             key: "",
@@ -55,9 +55,9 @@ fn next_text<'a>(members: &mut Members<'a>, list: &'a [u8]) -> &'a [u8] {
 
 /// What is wrong in a definition.
 fn fault_of_definition<'a, J: JsonTree>(
-    asked: &Asked<'a, J>,
+    asked: &FaultPlace<'a, J>,
     fault: DocFault,
-) -> Result<Option<Found<'a>>, AllocError> {
+) -> Result<Option<FoundFault<'a>>, AllocError> {
     let alloc = asked.alloc;
     let id = id_at(asked.json, "VariableId").unwrap_or("");
     let Some(expression) = asked.json.get("Expression") else {
@@ -69,7 +69,7 @@ fn fault_of_definition<'a, J: JsonTree>(
         let cause = found.sentence;
         let sentence = format!(in alloc; "in the definition of {id}, {cause}")?;
         let text = found.text;
-        return Ok(Some(Found { sentence, text }));
+        return Ok(Some(FoundFault { sentence, text }));
     }
     if fault == DocFault::Variable && leads_back(alloc, asked.definitions, id)? {
         let id = quoted(alloc, id)?;
@@ -81,12 +81,12 @@ fn fault_of_definition<'a, J: JsonTree>(
 
 /// What stands in a part, at that pointer from there.
 fn inside<'a, J: JsonTree>(
-    asked: &Asked<'a, J>,
+    asked: &FaultPlace<'a, J>,
     part: Part,
     pointer: &str,
     json: &'a J,
-) -> Result<Asked<'a, J>, AllocError> {
-    Ok(Asked {
+) -> Result<FaultPlace<'a, J>, AllocError> {
+    Ok(FaultPlace {
         alloc: asked.alloc,
         part,
         key: "",
@@ -101,10 +101,10 @@ fn inside<'a, J: JsonTree>(
 /// deep.
 #[cycle(fault_in)]
 fn fault_in<'a, J: JsonTree>(
-    asked: &Asked<'a, J>,
+    asked: &FaultPlace<'a, J>,
     fault: DocFault,
     levels: usize,
-) -> Result<Option<Found<'a>>, AllocError> {
+) -> Result<Option<FoundFault<'a>>, AllocError> {
     let alloc = asked.alloc;
     if levels == 0 {
         return Ok(None);
@@ -129,17 +129,17 @@ fn fault_in<'a, J: JsonTree>(
 /// What is wrong with the first argument that has such a fault; nothing of what has no arguments.
 #[cycle(fault_in)]
 fn fault_in_arguments<'a, J: JsonTree>(
-    asked: &Asked<'a, J>,
+    asked: &FaultPlace<'a, J>,
     fault: DocFault,
     levels: usize,
-) -> Result<Option<Found<'a>>, AllocError> {
+) -> Result<Option<FoundFault<'a>>, AllocError> {
     let Some(arguments) = list_at(asked.json, "Arguments") else {
         return Ok(None);
     };
     let list = text_at(asked.alloc, asked.text, "/Arguments")?;
     let mut members = Members::of(list);
     for argument in arguments {
-        let inner = Asked {
+        let inner = FaultPlace {
             alloc: asked.alloc,
             part: Part::Argument,
             key: "",
@@ -167,7 +167,7 @@ fn part_at(key: &str) -> Option<Part> {
 
 /// What is wrong with a part itself.
 fn own_sentence<J: JsonTree>(
-    asked: &Asked<'_, J>,
+    asked: &FaultPlace<'_, J>,
     fault: DocFault,
 ) -> Result<Option<String>, AllocError> {
     match fault {

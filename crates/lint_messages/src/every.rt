@@ -16,7 +16,7 @@ use std::alloc::{AllocError, Global};
 
 /// What is told of a document with all its faults.
 #[derive(Drop)]
-pub struct Explained {
+pub struct ExplainedFaults {
     /// A line for each fault: that of the first one as it is told alone, and then those of the others.
     pub lines: Vec<String>,
     /// Whether the search ended before it came to the end of the document, so that there may be more faults.
@@ -64,24 +64,24 @@ pub fn explain_faults<J: JsonTree>(
     text: &[u8],
     json: &J,
     fault: DocFault,
-) -> Result<Explained, AllocError>
+) -> Result<ExplainedFaults, AllocError>
     requires { document_of (J.content json.now) ≡ Err fault }
     ensures { IfOk result (λ e. AreTold fault (J.content json.now) (map string_bytes e.lines.items)) }
 {
     let faults = places_of(alloc, json, fault)?;
     let lines = lines_of(alloc, text, faults.places.as_slice())?;
     let is_cut = faults.is_cut;
-    Ok(Explained { lines, is_cut })
+    Ok(ExplainedFaults { lines, is_cut })
 }
 
 /// What is told of a text that isn't JSON, as the only fault.
-fn explain_only(alloc: Global, text: &[u8]) -> Result<Explained, AllocError>
+fn explain_only(alloc: Global, text: &[u8]) -> Result<ExplainedFaults, AllocError>
     ensures { IfOk result (λ e. AreExplained None (map string_bytes e.lines.items)) }
 {
     let mut lines = Vec::new(alloc);
     lines.push(explain_text(alloc, text)?)?;
     let is_cut = false;
-    Ok(Explained { lines, is_cut })
+    Ok(ExplainedFaults { lines, is_cut })
 }
 
 /// What is told of the text of a document with all its faults, one line each; nothing where it is a document that can
@@ -93,7 +93,7 @@ fn explain_only(alloc: Global, text: &[u8]) -> Result<Explained, AllocError>
 ///
 /// Its contract leaves open: the sentences, lines and columns, whether the search was cut, and which faults are told
 /// behind the first.
-pub fn explain_all(alloc: Global, text: &[u8]) -> Result<Explained, AllocError>
+pub fn explain_all(alloc: Global, text: &[u8]) -> Result<ExplainedFaults, AllocError>
     ensures { IfOk result (λ e. AreExplained (data_of text.now) (map string_bytes e.lines.items)) }
 {
     let mut scratch = Scratch::new(alloc);
@@ -101,7 +101,7 @@ pub fn explain_all(alloc: Global, text: &[u8]) -> Result<Explained, AllocError>
         return explain_only(alloc, text);
     };
     match read_document(alloc, &json) {
-        Ok(_) => Ok(Explained {
+        Ok(_) => Ok(ExplainedFaults {
             lines: Vec::new(alloc),
             is_cut: false,
         }),

@@ -1,6 +1,6 @@
 //! What is wrong with the form of a part.
 
-use crate::asked::{Asked, Found, here};
+use crate::asked::{FaultPlace, FoundFault, here};
 use crate::near::{did_you_mean, nearest};
 use crate::scan::{Member, Members, first_value};
 use crate::words::{alternatives, is_object, kind_of, object_name, quoted};
@@ -9,7 +9,9 @@ use lint_places::Part;
 use std::alloc::{AllocError, Global};
 
 /// What is wrong with the form of a part.
-pub(crate) fn form_fault<'a, J: JsonTree>(asked: &Asked<'a, J>) -> Result<Found<'a>, AllocError> {
+pub(crate) fn form_fault<'a, J: JsonTree>(
+    asked: &FaultPlace<'a, J>,
+) -> Result<FoundFault<'a>, AllocError> {
     if asked.part.item().is_some() {
         let sentence = list_sentence(asked)?;
         return Ok(here(asked, sentence));
@@ -43,7 +45,7 @@ fn has_one_key(part: Part) -> bool {
 
 /// That something is of the wrong kind.
 fn kind_sentence<J: JsonTree>(
-    asked: &Asked<'_, J>,
+    asked: &FaultPlace<'_, J>,
     name: &str,
     expected: &str,
 ) -> Result<String, AllocError> {
@@ -53,7 +55,7 @@ fn kind_sentence<J: JsonTree>(
 }
 
 /// What is wrong with what should be a list, or a list with members.
-fn list_sentence<J: JsonTree>(asked: &Asked<'_, J>) -> Result<String, AllocError> {
+fn list_sentence<J: JsonTree>(asked: &FaultPlace<'_, J>) -> Result<String, AllocError> {
     let alloc = asked.alloc;
     let key = quoted(alloc, asked.key)?;
     if is_empty_list(asked.json) {
@@ -68,7 +70,7 @@ fn empty_sentence(alloc: Global, key: &str) -> Result<String, AllocError> {
 }
 
 /// What is wrong with what should be a text, a flag or a literal.
-fn leaf_sentence<J: JsonTree>(asked: &Asked<'_, J>) -> Result<String, AllocError> {
+fn leaf_sentence<J: JsonTree>(asked: &FaultPlace<'_, J>) -> Result<String, AllocError> {
     let alloc = asked.alloc;
     let key = quoted(alloc, asked.key)?;
     match asked.part {
@@ -80,7 +82,10 @@ fn leaf_sentence<J: JsonTree>(asked: &Asked<'_, J>) -> Result<String, AllocError
 }
 
 /// What is wrong with an effect.
-fn effect_sentence<J: JsonTree>(asked: &Asked<'_, J>, key: &str) -> Result<String, AllocError> {
+fn effect_sentence<J: JsonTree>(
+    asked: &FaultPlace<'_, J>,
+    key: &str,
+) -> Result<String, AllocError> {
     let alloc = asked.alloc;
     let Some(word) = asked.json.as_str() else {
         return kind_sentence(asked, key, "`Permit` or `Deny`");
@@ -91,7 +96,10 @@ fn effect_sentence<J: JsonTree>(asked: &Asked<'_, J>, key: &str) -> Result<Strin
 }
 
 /// What is wrong with a literal.
-fn literal_sentence<J: JsonTree>(asked: &Asked<'_, J>, key: &str) -> Result<String, AllocError> {
+fn literal_sentence<J: JsonTree>(
+    asked: &FaultPlace<'_, J>,
+    key: &str,
+) -> Result<String, AllocError> {
     let alloc = asked.alloc;
     if !asked.json.is_number() {
         return kind_sentence(asked, key, "a text, a boolean or a whole number");
@@ -115,7 +123,9 @@ fn known_keys(alloc: Global, part: Part) -> Result<Vec<&'static str>, AllocError
 }
 
 /// The first key of the object that isn't known, if there is one, where it counts: where it stands last.
-fn unknown_key<'a, J: JsonTree>(asked: &Asked<'a, J>) -> Result<Option<Found<'a>>, AllocError> {
+fn unknown_key<'a, J: JsonTree>(
+    asked: &FaultPlace<'a, J>,
+) -> Result<Option<FoundFault<'a>>, AllocError> {
     let alloc = asked.alloc;
     let known = known_keys(alloc, asked.part)?;
     let mut members = Members::of(asked.text);
@@ -129,7 +139,7 @@ fn unknown_key<'a, J: JsonTree>(asked: &Asked<'a, J>) -> Result<Option<Found<'a>
         if !known.as_slice().contains(&key.as_str()) {
             let sentence = unknown_sentence(asked, key.as_str(), known.as_slice())?;
             let text = last_at(alloc, member, members, key.as_str())?;
-            return Ok(Some(Found { sentence, text }));
+            return Ok(Some(FoundFault { sentence, text }));
         }
     }
     Ok(None)
@@ -173,7 +183,7 @@ fn key_around(part: Part, key: &str) -> Option<&'static str> {
 
 /// That a key isn't known.
 fn unknown_sentence<J: JsonTree>(
-    asked: &Asked<'_, J>,
+    asked: &FaultPlace<'_, J>,
     key: &str,
     known: &[&'static str],
 ) -> Result<String, AllocError> {
@@ -194,7 +204,7 @@ fn unknown_sentence<J: JsonTree>(
 }
 
 /// That an object has not exactly one key.
-fn one_key_sentence<J: JsonTree>(asked: &Asked<'_, J>) -> Result<String, AllocError> {
+fn one_key_sentence<J: JsonTree>(asked: &FaultPlace<'_, J>) -> Result<String, AllocError> {
     let alloc = asked.alloc;
     let name = object_name(asked.part);
     let known = known_keys(alloc, asked.part)?;
@@ -241,7 +251,7 @@ fn required_keys(part: Part) -> &'static [&'static str] {
 }
 
 /// That a key is missing, or a list is empty.
-fn missing_sentence<J: JsonTree>(asked: &Asked<'_, J>) -> Result<String, AllocError> {
+fn missing_sentence<J: JsonTree>(asked: &FaultPlace<'_, J>) -> Result<String, AllocError> {
     let alloc = asked.alloc;
     let name = object_name(asked.part);
     for key in required_keys(asked.part) {

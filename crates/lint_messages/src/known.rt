@@ -1,6 +1,6 @@
 //! Which known identifier is nearest to one that isn't known. Identifiers are compared by their last words.
 
-use crate::near::{Search, nearest};
+use crate::near::{NearestWord, nearest};
 use crate::words::last_word;
 use ent_combine::{PolicyAlg, RuleAlg};
 use ent_functions::{Comparison, Element, Function, Ordered};
@@ -52,7 +52,7 @@ pub(crate) fn nearest_function(
     id: &str,
     in_match: bool,
 ) -> Result<Option<Text>, AllocError> {
-    let mut search = Search::new(last_word(id));
+    let mut search = NearestWord::new(last_word(id));
     let mut best = None;
     let candidates = if in_match {
         match_ids(alloc)?
@@ -83,7 +83,7 @@ fn nearest_id(
     id: &str,
     known: &[&'static str],
 ) -> Result<Option<&'static str>, AllocError> {
-    let mut search = Search::new(last_word(id));
+    let mut search = NearestWord::new(last_word(id));
     let mut best = None;
     for candidate in known {
         if search.is_nearer(alloc, last_word(candidate))? {

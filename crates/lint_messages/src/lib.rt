@@ -28,7 +28,7 @@ mod variables;
 mod warned;
 mod words;
 
-pub use every::{Explained, explain_all, explain_faults};
+pub use every::{ExplainedFaults, explain_all, explain_faults};
 pub use line::one_line;
 pub use merge::is_merge_marker;
 pub use places::Places;

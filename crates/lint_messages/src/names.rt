@@ -1,7 +1,7 @@
 //! What is wrong with an identifier, a version, or the name of an algorithm, a function or a data type.
 
 use crate::absent::{instead_of_function, instead_of_type};
-use crate::asked::Asked;
+use crate::asked::FaultPlace;
 use crate::known::{
     nearest_function, nearest_policy_algorithm, nearest_rule_algorithm, nearest_type,
 };
@@ -14,13 +14,13 @@ use std::alloc::{AllocError, Global};
 use std::collections::BTreeSet;
 
 /// The text that stands at a place, or nothing.
-fn text_of<'a, J: JsonTree>(asked: &Asked<'a, J>) -> &'a str {
+fn text_of<'a, J: JsonTree>(asked: &FaultPlace<'a, J>) -> &'a str {
     asked.json.as_str().unwrap_or("")
 }
 
 /// What is wrong with an identifier, or with those of some rules.
 pub(crate) fn identifier_sentence<J: JsonTree>(
-    asked: &Asked<'_, J>,
+    asked: &FaultPlace<'_, J>,
 ) -> Result<Option<String>, AllocError> {
     match asked.part {
         Part::Name => Ok(Some(name_sentence(asked)?)),
@@ -30,7 +30,7 @@ pub(crate) fn identifier_sentence<J: JsonTree>(
 }
 
 /// What is wrong with the length of an identifier.
-fn name_sentence<J: JsonTree>(asked: &Asked<'_, J>) -> Result<String, AllocError> {
+fn name_sentence<J: JsonTree>(asked: &FaultPlace<'_, J>) -> Result<String, AllocError> {
     let alloc = asked.alloc;
     let key = asked.key;
     let length = text_of(asked).len();
@@ -41,7 +41,7 @@ fn name_sentence<J: JsonTree>(asked: &Asked<'_, J>) -> Result<String, AllocError
 }
 
 /// The first id that two rules have.
-fn twice_sentence<J: JsonTree>(asked: &Asked<'_, J>) -> Result<Option<String>, AllocError> {
+fn twice_sentence<J: JsonTree>(asked: &FaultPlace<'_, J>) -> Result<Option<String>, AllocError> {
     let alloc = asked.alloc;
     let Some(rules) = asked.json.as_array() else {
         return Ok(None);
@@ -73,7 +73,9 @@ fn is_number(part: &str) -> bool {
 }
 
 /// What is wrong with a version or a version pattern.
-pub(crate) fn version_sentence<J: JsonTree>(asked: &Asked<'_, J>) -> Result<String, AllocError> {
+pub(crate) fn version_sentence<J: JsonTree>(
+    asked: &FaultPlace<'_, J>,
+) -> Result<String, AllocError> {
     let alloc = asked.alloc;
     let text = text_of(asked);
     let is_pattern = asked.part == Part::Pattern;
@@ -114,7 +116,9 @@ fn part_sentence(alloc: Global, text: &str, is_pattern: bool) -> Result<String, 
 }
 
 /// What is wrong with the identifier of a combining algorithm.
-pub(crate) fn algorithm_sentence<J: JsonTree>(asked: &Asked<'_, J>) -> Result<String, AllocError> {
+pub(crate) fn algorithm_sentence<J: JsonTree>(
+    asked: &FaultPlace<'_, J>,
+) -> Result<String, AllocError> {
     let alloc = asked.alloc;
     let id = text_of(asked);
     let shown = quoted(alloc, id)?;
@@ -135,7 +139,9 @@ pub(crate) fn algorithm_sentence<J: JsonTree>(asked: &Asked<'_, J>) -> Result<St
 }
 
 /// That no function has that identifier.
-pub(crate) fn function_sentence<J: JsonTree>(asked: &Asked<'_, J>) -> Result<String, AllocError> {
+pub(crate) fn function_sentence<J: JsonTree>(
+    asked: &FaultPlace<'_, J>,
+) -> Result<String, AllocError> {
     let alloc = asked.alloc;
     let id = text_of(asked);
     let shown = quoted(alloc, id)?;

@@ -21,7 +21,7 @@ fn distance(alloc: Global, first: &str, second: &str) -> Result<usize, AllocErro
 
 /// The search for the known word that is nearest to one, which is asked of each known word in turn.
 #[derive(Drop)]
-pub(crate) struct Search<'w> {
+pub(crate) struct NearestWord<'w> {
     word: &'w str,
     /// What is nearer is less far than this.
     far: usize,
@@ -29,10 +29,10 @@ pub(crate) struct Search<'w> {
     left: usize,
 }
 
-impl<'w> Search<'w> {
+impl<'w> NearestWord<'w> {
     /// The search for the word that was meant.
-    pub(crate) fn new(word: &'w str) -> Search<'w> {
-        Search {
+    pub(crate) fn new(word: &'w str) -> NearestWord<'w> {
+        NearestWord {
             word,
             far: FAR + 1,
             left: MOST_COMPARED,
@@ -67,7 +67,7 @@ pub(crate) fn nearest<'a>(
     word: &str,
     known: &[&'a str],
 ) -> Result<Option<&'a str>, AllocError> {
-    let mut search = Search::new(word);
+    let mut search = NearestWord::new(word);
     let mut best = None;
     for candidate in known {
         if search.is_nearer(alloc, candidate)? {

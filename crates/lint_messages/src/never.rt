@@ -72,13 +72,13 @@ impl Giver {
 
 /// Where a document is looked through, and what was told of it so far: JSON pointers and sentences.
 #[derive(Drop)]
-struct Notes<'a> {
+struct NeverNotes<'a> {
     alloc: Global,
     text: &'a [u8],
     told: &'a mut Vec<(String, String)>,
 }
 
-impl Notes<'_> {
+impl NeverNotes<'_> {
     /// Puts last what is told of one that stands at a pointer, and never comes.
     fn note(
         &mut self,
@@ -131,7 +131,7 @@ pub(crate) fn note_never<J: JsonTree>(
     policy: &J,
     told: &mut Vec<(String, String)>,
 ) -> Result<(), AllocError> {
-    let mut notes = Notes { alloc, text, told };
+    let mut notes = NeverNotes { alloc, text, told };
     for (number, rule) in list_at(policy, "Rule").unwrap_or(&[]).iter().enumerate() {
         let inner = format!(in alloc; "{pointer}/Rule/{number}")?;
         notes.note_all(inner.as_str(), rule, Giver::rule(rule))?;

@@ -9,39 +9,39 @@ use std::alloc::{AllocError, Global};
 
 /// What is wrong with a text, and behind how many bytes.
 #[derive(Drop)]
-pub(crate) struct Cause {
+pub(crate) struct JsonFault {
     pub(crate) sentence: String,
     pub(crate) behind: usize,
 }
 
-impl Cause {
+impl JsonFault {
     /// What is wrong behind that many bytes.
-    fn new(alloc: Global, sentence: &str, behind: usize) -> Result<Cause, AllocError> {
+    fn new(alloc: Global, sentence: &str, behind: usize) -> Result<JsonFault, AllocError> {
         let sentence = String::from_str(alloc, sentence)?;
-        Ok(Cause { sentence, behind })
+        Ok(JsonFault { sentence, behind })
     }
 }
 
 /// What is told of a text that isn't JSON, where its place stands before what is wrong.
 pub(crate) fn text_sentence(alloc: Global, text: &[u8]) -> Result<String, AllocError> {
-    let Cause { sentence, behind } = found_in(alloc, text)?;
+    let JsonFault { sentence, behind } = found_in(alloc, text)?;
     let position = position_behind(text.get(..behind).unwrap_or(text));
     let (line, column) = (position.line, position.column);
     format!(in alloc; "line {line}, column {column}: {sentence}")
 }
 
 /// What is wrong with a text that isn't JSON.
-fn found_in(alloc: Global, text: &[u8]) -> Result<Cause, AllocError> {
+fn found_in(alloc: Global, text: &[u8]) -> Result<JsonFault, AllocError> {
     if let Some(sentence) = encoding_sentence(text) {
-        return Cause::new(alloc, sentence, 0);
+        return JsonFault::new(alloc, sentence, 0);
     }
     if let Some(behind) = marker_in(text) {
         let sentence = "a merge left its marker here: of these lines two versions stand, keep one";
-        return Cause::new(alloc, sentence, behind);
+        return JsonFault::new(alloc, sentence, behind);
     }
     match str::from_utf8(text) {
         Ok(text) => syntax_cause(alloc, text),
-        Err(fault) => Cause::new(alloc, "the bytes here aren't UTF-8", fault.valid_up_to()),
+        Err(fault) => JsonFault::new(alloc, "the bytes here aren't UTF-8", fault.valid_up_to()),
     }
 }
 
@@ -65,13 +65,13 @@ fn encoding_sentence(text: &[u8]) -> Option<&'static str> {
 }
 
 /// What is wrong with the syntax of a text.
-fn syntax_cause(alloc: Global, text: &str) -> Result<Cause, AllocError> {
+fn syntax_cause(alloc: Global, text: &str) -> Result<JsonFault, AllocError> {
     if let Some(behind) = too_deep_at(text.as_bytes()) {
         let sentence = "objects and lists stand in each other more than 127 levels deep here";
-        return Cause::new(alloc, sentence, behind);
+        return JsonFault::new(alloc, sentence, behind);
     }
     match Value::from_str(alloc, text) {
-        Ok(_) => Cause::new(alloc, "the file isn't JSON", 0),
+        Ok(_) => JsonFault::new(alloc, "the file isn't JSON", 0),
         Err(fault) => {
             if fault.is_memory() {
                 return Err(AllocError);
@@ -82,24 +82,24 @@ fn syntax_cause(alloc: Global, text: &str) -> Result<Cause, AllocError> {
 }
 
 /// What is wrong, by the place at which reading ended.
-fn fault_cause(alloc: Global, text: &str, fault: &Error) -> Result<Cause, AllocError> {
+fn fault_cause(alloc: Global, text: &str, fault: &Error) -> Result<JsonFault, AllocError> {
     let end = text.trim_ascii_end().len();
     if fault.is_eof() {
-        return Cause::new(alloc, "the file ends before its JSON does", end);
+        return JsonFault::new(alloc, "the file ends before its JSON does", end);
     }
     let behind = bytes_before(text.as_bytes(), fault.line(), fault.column());
     let Some((before, rest)) = text.split_at_checked(behind) else {
-        return Cause::new(alloc, "the file isn't JSON from here on", behind);
+        return JsonFault::new(alloc, "the file isn't JSON from here on", behind);
     };
     let Some(first) = rest.chars().next() else {
-        return Cause::new(alloc, "the file ends before its JSON does", end);
+        return JsonFault::new(alloc, "the file ends before its JSON does", end);
     };
     let sentence = if is_out_of_range(alloc, fault)? {
         String::from_str(alloc, "the number before this is too large")?
     } else {
         stop_sentence(alloc, before.trim_ascii_end(), first, rest)?
     };
-    Ok(Cause { sentence, behind })
+    Ok(JsonFault { sentence, behind })
 }
 
 /// Whether a number is out of range.

@@ -5,7 +5,7 @@ ghost use Rattle.ent_json.specs.Line.{data_of};
 ghost use Rattle.ent_polform.specs.Form.{document_of};
 ghost use Rattle.lint_messages.specs.Told.{IsExplained, IsPlaced, IsTold, is_one_line, shown};
 
-use crate::asked::{Asked, Found};
+use crate::asked::{FaultPlace, FoundFault};
 use crate::line::one_line;
 use crate::not_json::text_sentence;
 use crate::position::{position_of, text_at};
@@ -35,7 +35,7 @@ pub(crate) fn sentence_at<J: JsonTree>(
         Part::Definition => around,
         _ => pointer,
     };
-    let asked = Asked {
+    let asked = FaultPlace {
         alloc,
         part: place.part,
         key,
@@ -44,7 +44,7 @@ pub(crate) fn sentence_at<J: JsonTree>(
         text: text_at(alloc, text, pointer)?,
         list: text_at(alloc, text, list)?,
     };
-    let Found {
+    let FoundFault {
         sentence,
         text: there,
     } = found(&asked, fault)?;

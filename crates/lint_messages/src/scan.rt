@@ -7,7 +7,7 @@ use std::alloc::{AllocError, Global};
 
 /// What is known of the bytes of a value that were passed.
 #[derive(Drop)]
-struct Walk {
+struct ByteScan {
     /// How many objects and lists are open.
     depth: usize,
     /// Whether a text is open.
@@ -16,9 +16,9 @@ struct Walk {
     escaped: bool,
 }
 
-impl Walk {
-    fn start() -> Walk {
-        Walk {
+impl ByteScan {
+    fn start() -> ByteScan {
+        ByteScan {
             depth: 0,
             in_text: false,
             escaped: false,
@@ -70,7 +70,7 @@ fn is_mark(byte: u8) -> bool {
 fn value_length(text: &[u8]) -> usize
     ensures { result ≤ length text.now }
 {
-    let mut walk = Walk::start();
+    let mut walk = ByteScan::start();
     for (n, byte) in text.iter().enumerate() {
         if walk.ends_before(*byte) {
             return n;
@@ -95,7 +95,7 @@ pub(crate) const MOST_OPEN: usize = 127;
 
 /// Behind how many bytes of a text more objects and lists are open than may be, if there are.
 pub(crate) fn too_deep_at(text: &[u8]) -> Option<usize> {
-    let mut walk = Walk::start();
+    let mut walk = ByteScan::start();
     for (n, byte) in text.iter().enumerate() {
         walk.pass(*byte);
         if walk.depth > MOST_OPEN {

@@ -1,6 +1,6 @@
 //! What is wrong at a place of a document, in one sentence.
 
-use crate::asked::{Asked, Found, here};
+use crate::asked::{FaultPlace, FoundFault, here};
 use crate::definitions::definition_fault;
 use crate::form::form_fault;
 use crate::names::{algorithm_sentence, function_sentence, identifier_sentence, version_sentence};
@@ -13,9 +13,9 @@ use std::alloc::AllocError;
 
 /// What is wrong at a place that has that fault.
 pub(crate) fn found<'a, J: JsonTree>(
-    asked: &Asked<'a, J>,
+    asked: &FaultPlace<'a, J>,
     fault: DocFault,
-) -> Result<Found<'a>, AllocError> {
+) -> Result<FoundFault<'a>, AllocError> {
     if fault == DocFault::Form {
         return form_fault(asked);
     }
@@ -31,7 +31,7 @@ pub(crate) fn found<'a, J: JsonTree>(
 
 /// What is wrong, where it can be told more exactly than by the fault alone.
 fn sentence<J: JsonTree>(
-    asked: &Asked<'_, J>,
+    asked: &FaultPlace<'_, J>,
     fault: DocFault,
 ) -> Result<Option<String>, AllocError> {
     match fault {
@@ -49,7 +49,7 @@ fn sentence<J: JsonTree>(
 
 /// The sentence on a text, where a text stands there.
 fn text_only<J: JsonTree>(
-    asked: &Asked<'_, J>,
+    asked: &FaultPlace<'_, J>,
     sentence: String,
 ) -> Result<Option<String>, AllocError> {
     if asked.json.as_str().is_some() {

@@ -1,6 +1,6 @@
 //! What is too long or too deep in a part.
 
-use crate::asked::Asked;
+use crate::asked::FaultPlace;
 use crate::scan::MOST_OPEN;
 use ent_json::{JsonTree, list_at};
 use lint_places::Part;
@@ -13,7 +13,7 @@ const MOST_MEMBERS: usize = 256;
 const MOST_REFERENCES: usize = 32;
 
 /// What is too long in a part.
-pub(crate) fn size_sentence<J: JsonTree>(asked: &Asked<'_, J>) -> Result<String, AllocError> {
+pub(crate) fn size_sentence<J: JsonTree>(asked: &FaultPlace<'_, J>) -> Result<String, AllocError> {
     let alloc = asked.alloc;
     let key = asked.key;
     let members = match asked.json.as_array() {
@@ -39,7 +39,7 @@ pub(crate) fn size_sentence<J: JsonTree>(asked: &Asked<'_, J>) -> Result<String,
 }
 
 /// How many references stand in a part that may have some.
-fn references_in<J: JsonTree>(asked: &Asked<'_, J>) -> usize {
+fn references_in<J: JsonTree>(asked: &FaultPlace<'_, J>) -> usize {
     match asked.part {
         Part::Document | Part::Child => references_of_child(asked.json, MOST_OPEN),
         Part::Set => references_of_set(asked.json, MOST_OPEN),
@@ -89,7 +89,7 @@ fn references_of_children<J: JsonTree>(children: &[J], levels: usize) -> usize {
 }
 
 /// What is too deep in a part.
-pub(crate) fn depth_sentence<J: JsonTree>(asked: &Asked<'_, J>) -> Result<String, AllocError> {
+pub(crate) fn depth_sentence<J: JsonTree>(asked: &FaultPlace<'_, J>) -> Result<String, AllocError> {
     let sentence = match asked.part {
         Part::Document | Part::Set | Part::Child | Part::Children => {
             "policy sets stand in each other more than 16 levels deep"

@@ -40,7 +40,7 @@ struct Again<'a> {
 
 /// What is known of the bytes of a text that were passed.
 #[derive(Drop)]
-struct Walk<'a> {
+struct ByteScan<'a> {
     text: &'a [u8],
     open: Vec<Open<'a>>,
     found: Vec<Again<'a>>,
@@ -52,7 +52,7 @@ struct Walk<'a> {
     last: Written<'a>,
 }
 
-impl<'a> Walk<'a> {
+impl<'a> ByteScan<'a> {
     /// The JSON pointer of what was opened last. A key is taken as it is written.
     fn pointer(&self, alloc: Global) -> Result<String, AllocError> {
         let mut pointer = String::new(alloc);
@@ -163,7 +163,7 @@ fn text_between(text: &[u8], begin: usize, end: usize) -> &str {
 
 /// The keys that stand again in an object, as far as so many are told.
 fn keys_again(alloc: Global, text: &[u8]) -> Result<Vec<Again<'_>>, AllocError> {
-    let mut walk = Walk {
+    let mut walk = ByteScan {
         text,
         open: Vec::new(alloc),
         found: Vec::new(alloc),

@@ -1,6 +1,6 @@
 //! What is wrong with the types of a part.
 
-use crate::asked::Asked;
+use crate::asked::FaultPlace;
 use crate::names::data_type_sentence;
 use crate::takes::misfit;
 use crate::types::{
@@ -16,7 +16,7 @@ use std::alloc::AllocError;
 
 /// What is wrong with the types of a part, where it can be told.
 pub(crate) fn type_sentence<J: JsonTree>(
-    asked: &Asked<'_, J>,
+    asked: &FaultPlace<'_, J>,
 ) -> Result<Option<String>, AllocError> {
     match asked.part {
         Part::DataType => {
@@ -36,7 +36,7 @@ pub(crate) fn type_sentence<J: JsonTree>(
 
 /// What is wrong with the types of a part that isn't known to have a fault, by what stands in it alone.
 pub(crate) fn own_type_sentence<J: JsonTree>(
-    asked: &Asked<'_, J>,
+    asked: &FaultPlace<'_, J>,
 ) -> Result<Option<String>, AllocError> {
     match asked.part {
         Part::Apply => apply_sentence(asked),
@@ -54,7 +54,9 @@ pub(crate) fn own_type_sentence<J: JsonTree>(
 }
 
 /// That the data type that is named isn't known.
-fn unknown_type_sentence<J: JsonTree>(asked: &Asked<'_, J>) -> Result<Option<String>, AllocError> {
+fn unknown_type_sentence<J: JsonTree>(
+    asked: &FaultPlace<'_, J>,
+) -> Result<Option<String>, AllocError> {
     match text_at(asked.json, "DataType") {
         Some(name) if DataType::from_name(name).is_none() => {
             Ok(Some(data_type_sentence(asked.alloc, name)?))
@@ -64,7 +66,7 @@ fn unknown_type_sentence<J: JsonTree>(asked: &Asked<'_, J>) -> Result<Option<Str
 }
 
 /// Whether a literal is a value of its type.
-fn is_of_its_type<J: JsonTree>(asked: &Asked<'_, J>) -> Result<bool, AllocError> {
+fn is_of_its_type<J: JsonTree>(asked: &FaultPlace<'_, J>) -> Result<bool, AllocError> {
     let Some(value) = asked.json.get("Value") else {
         return Ok(true);
     };
@@ -79,7 +81,7 @@ fn is_of_its_type<J: JsonTree>(asked: &Asked<'_, J>) -> Result<bool, AllocError>
 }
 
 /// That a literal isn't of its type.
-fn value_sentence<J: JsonTree>(asked: &Asked<'_, J>) -> Result<Option<String>, AllocError> {
+fn value_sentence<J: JsonTree>(asked: &FaultPlace<'_, J>) -> Result<Option<String>, AllocError> {
     let alloc = asked.alloc;
     let Some(value) = asked.json.get("Value") else {
         return Ok(None);
@@ -98,7 +100,7 @@ fn value_sentence<J: JsonTree>(asked: &Asked<'_, J>) -> Result<Option<String>, A
 }
 
 /// That the function of a match doesn't take its literal and a value of its attribute, or gives no boolean.
-fn match_sentence<J: JsonTree>(asked: &Asked<'_, J>) -> Result<Option<String>, AllocError> {
+fn match_sentence<J: JsonTree>(asked: &FaultPlace<'_, J>) -> Result<Option<String>, AllocError> {
     let alloc = asked.alloc;
     let Some(function) = function_at(asked.json, "MatchId") else {
         return Ok(None);
@@ -133,7 +135,7 @@ fn match_sentence<J: JsonTree>(asked: &Asked<'_, J>) -> Result<Option<String>, A
 }
 
 /// That a function doesn't take its arguments.
-fn apply_sentence<J: JsonTree>(asked: &Asked<'_, J>) -> Result<Option<String>, AllocError> {
+fn apply_sentence<J: JsonTree>(asked: &FaultPlace<'_, J>) -> Result<Option<String>, AllocError> {
     let alloc = asked.alloc;
     let Some(function) = function_at(asked.json, "FunctionId") else {
         return Ok(None);
@@ -151,7 +153,7 @@ fn apply_sentence<J: JsonTree>(asked: &Asked<'_, J>) -> Result<Option<String>, A
 
 /// That an expression gives something else than is expected.
 fn outcome_sentence<J: JsonTree>(
-    asked: &Asked<'_, J>,
+    asked: &FaultPlace<'_, J>,
     expected: &str,
 ) -> Result<Option<String>, AllocError> {
     let alloc = asked.alloc;

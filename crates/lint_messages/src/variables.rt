@@ -1,6 +1,6 @@
 //! What is wrong with the variables of a policy.
 
-use crate::asked::Asked;
+use crate::asked::FaultPlace;
 use crate::near::{did_you_mean, nearest};
 use crate::scan::MOST_OPEN;
 use crate::types::definition_of;
@@ -12,7 +12,7 @@ use std::collections::BTreeSet;
 
 /// What is wrong with the variables at a place, where it can be told.
 pub(crate) fn variable_sentence<J: JsonTree>(
-    asked: &Asked<'_, J>,
+    asked: &FaultPlace<'_, J>,
 ) -> Result<Option<String>, AllocError> {
     match asked.part {
         Part::VariableReference => Ok(Some(undefined_sentence(asked)?)),
@@ -37,7 +37,9 @@ fn ids_of<'a, J: JsonTree>(
 }
 
 /// That a variable isn't defined.
-pub(crate) fn undefined_sentence<J: JsonTree>(asked: &Asked<'_, J>) -> Result<String, AllocError> {
+pub(crate) fn undefined_sentence<J: JsonTree>(
+    asked: &FaultPlace<'_, J>,
+) -> Result<String, AllocError> {
     let alloc = asked.alloc;
     let id = text_at(asked.json, "VariableId").unwrap_or("");
     let shown = quoted(alloc, id)?;
@@ -128,14 +130,16 @@ pub(crate) fn leads_back<J: JsonTree>(
 }
 
 /// That a variable leads back to itself.
-fn circle_sentence<J: JsonTree>(asked: &Asked<'_, J>) -> Result<String, AllocError> {
+fn circle_sentence<J: JsonTree>(asked: &FaultPlace<'_, J>) -> Result<String, AllocError> {
     let alloc = asked.alloc;
     let id = quoted(alloc, text_at(asked.json, "VariableId").unwrap_or(""))?;
     format!(in alloc; "{id} is defined through itself")
 }
 
 /// That a variable is defined twice, or else that more than one isn't as it should be.
-fn definitions_sentence<J: JsonTree>(asked: &Asked<'_, J>) -> Result<Option<String>, AllocError> {
+fn definitions_sentence<J: JsonTree>(
+    asked: &FaultPlace<'_, J>,
+) -> Result<Option<String>, AllocError> {
     let alloc = asked.alloc;
     let Some(definitions) = asked.json.as_array() else {
         return Ok(None);

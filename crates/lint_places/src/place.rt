@@ -42,7 +42,7 @@ pub struct Place<'a, J> {
 /// What is known of the members of a list before one is judged: of definitions, which refer to which, and which may
 /// have the fault.
 #[derive(Drop)]
-struct Known {
+struct ListLinks {
     links: Vec<Vec<usize>>,
     suspects: Vec<bool>,
 }
@@ -105,7 +105,7 @@ impl<'a, J: JsonTree> Place<'a, J> {
     }
 
     /// What is known of the members of this list before one is judged.
-    fn known(&self, alloc: Global, fault: DocFault) -> Result<Known, AllocError>
+    fn known(&self, alloc: Global, fault: DocFault) -> Result<ListLinks, AllocError>
         ensures links { IfOk result (λ k. map (λ row. row.items) k.links.items
             ≡ links_in self.now.part (listed (Some (J.content self.now.json.now)))) }
         ensures suspects { IfOk result (λ k. AreSuspectsIn fault self.now.part (scope_of J.content self.now.scope)
@@ -113,7 +113,7 @@ impl<'a, J: JsonTree> Place<'a, J> {
     {
         let suspects = self.suspects(alloc, fault)?;
         let links = self.links(alloc)?;
-        Ok(Known { links, suspects })
+        Ok(ListLinks { links, suspects })
     }
 
     /// The definitions around the member of that number of this list.
@@ -187,7 +187,7 @@ impl<'a, J: JsonTree> Place<'a, J> {
     fn member(
         &self,
         alloc: Global,
-        known: &Known,
+        known: &ListLinks,
         number: usize,
         part: Part,
         json: &'a J,

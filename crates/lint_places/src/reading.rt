@@ -20,7 +20,7 @@ use ent_values::Items;
 use std::alloc::Global;
 
 /// What is read of a JSON value as it stands in a list.
-pub(crate) trait Readable: Drop {
+pub(crate) trait ReadableItem: Drop {
     ghost use Rattle.std.specs.Prelude.{Result};
     ghost use Rattle.serde_json.specs.Data.{Data};
     ghost use Rattle.ent_policy.specs.declared.fault.DocFault.{DocFault};
@@ -33,7 +33,7 @@ pub(crate) trait Readable: Drop {
 }
 
 /// Each of some, as read.
-pub(crate) fn all<R: Readable, J: JsonTree>(
+pub(crate) fn all<R: ReadableItem, J: JsonTree>(
     alloc: Global,
     values: &[J],
 ) -> Result<Items<R>, CheckFault>
@@ -46,7 +46,7 @@ pub(crate) fn all<R: Readable, J: JsonTree>(
     Ok(all)
 }
 
-impl Readable for RawVariableDefinition {
+impl ReadableItem for RawVariableDefinition {
     ghost reads = { definition_of };
 
     fn read<J: JsonTree>(alloc: Global, json: &J) -> Result<RawVariableDefinition, CheckFault> {
@@ -54,7 +54,7 @@ impl Readable for RawVariableDefinition {
     }
 }
 
-impl Readable for RawChild {
+impl ReadableItem for RawChild {
     ghost reads = { child_of };
 
     fn read<J: JsonTree>(alloc: Global, json: &J) -> Result<RawChild, CheckFault> {
@@ -62,7 +62,7 @@ impl Readable for RawChild {
     }
 }
 
-impl Readable for RawRule {
+impl ReadableItem for RawRule {
     ghost reads = { rule_of };
 
     fn read<J: JsonTree>(alloc: Global, json: &J) -> Result<RawRule, CheckFault> {
@@ -70,7 +70,7 @@ impl Readable for RawRule {
     }
 }
 
-impl Readable for RawAnyOf {
+impl ReadableItem for RawAnyOf {
     ghost reads = { one_any_of };
 
     fn read<J: JsonTree>(alloc: Global, json: &J) -> Result<RawAnyOf, CheckFault> {
@@ -78,7 +78,7 @@ impl Readable for RawAnyOf {
     }
 }
 
-impl Readable for RawAllOf {
+impl ReadableItem for RawAllOf {
     ghost reads = { one_all_of };
 
     fn read<J: JsonTree>(alloc: Global, json: &J) -> Result<RawAllOf, CheckFault> {
@@ -86,7 +86,7 @@ impl Readable for RawAllOf {
     }
 }
 
-impl Readable for RawMatch {
+impl ReadableItem for RawMatch {
     ghost reads = { match_of };
 
     fn read<J: JsonTree>(alloc: Global, json: &J) -> Result<RawMatch, CheckFault> {
@@ -94,7 +94,7 @@ impl Readable for RawMatch {
     }
 }
 
-impl Readable for RawAssignment {
+impl ReadableItem for RawAssignment {
     ghost reads = { assignment_of };
 
     fn read<J: JsonTree>(alloc: Global, json: &J) -> Result<RawAssignment, CheckFault> {

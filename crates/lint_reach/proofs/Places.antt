@@ -11,34 +11,34 @@ use Rattle.ent_values.proofs.Telling.{decided, decides, last, more, struct}
 use Rattle.ent_policy.proofs.Same.{same_key-Decides}
 use Rattle.ent_finder.specs.Slots.{Docs}
 use Rattle.lint_reach.specs.Reached.{has_place, places_found, references_at}
-use Rattle.lint_reach.specs.contracts.place.Place as place
-use Rattle.lint_reach.specs.contracts.place.PlaceEq.TheImpl.Laws as equalities
-use Rattle.lint_reach.specs.contracts.place.PlaceOrd.TheImpl as orders
-use Rattle.lint_reach.specs.contracts.place.PlaceOrd.TheImpl.Laws.{matches_eq-law}
-use Rattle.lint_reach.specs.contracts.place.PlacePartialEq.TheImpl as places
-use Rattle.lint_reach.specs.declared.place.Place.{Place}
+use Rattle.lint_reach.specs.contracts.place.DocPlace as place
+use Rattle.lint_reach.specs.contracts.place.DocPlaceEq.TheImpl.Laws as equalities
+use Rattle.lint_reach.specs.contracts.place.DocPlaceOrd.TheImpl as orders
+use Rattle.lint_reach.specs.contracts.place.DocPlaceOrd.TheImpl.Laws.{matches_eq-law}
+use Rattle.lint_reach.specs.contracts.place.DocPlacePartialEq.TheImpl as places
+use Rattle.lint_reach.specs.declared.place.DocPlace.{DocPlace}
 
 -- ---- equal places
 
-abbrev pub same_place : Place → Place → Bool
+abbrev pub same_place : DocPlace → DocPlace → Bool
 same_place = (places.ghosts).eq
 
-abbrev pub place_cmp : Place → Place → Ordering
+abbrev pub place_cmp : DocPlace → DocPlace → Ordering
 place_cmp = (orders.ghosts).cmp
 
-pub place-Decides : (a b : Place) → Decides (same_place a b) (a ≡ b)
+pub place-Decides : (a b : DocPlace) → Decides (same_place a b) (a ≡ b)
 place-Decides = decides equalities.laws-law (struct place.struct place.the_propositions (more (decided Decides-eqb) (last (decided same_key-Decides))))
 
 -- what is found by the order is found by `==`
-pub by_order : (p : Place) (among : List Place) → list_any (λ other. is_eq (place_cmp p other)) among ≡ has_place p among
+pub by_order : (p : DocPlace) (among : List DocPlace) → list_any (λ other. is_eq (place_cmp p other)) among ≡ has_place p among
 by_order p among = λ i. list_any (λ other. sym (matches_eq-law p other) i) among
 
 -- ---- what stands among places
 
-pub here : (p : Place) (among : List Place) → has_place p (p ∷ among) ≡ true
+pub here : (p : DocPlace) (among : List DocPlace) → has_place p (p ∷ among) ≡ true
 here p among = ap (λ b. b || has_place p among) ((place-Decides p p).1 refl)
 
-there : (p x : Place) (among : List Place) → has_place p among ≡ true → has_place p (x ∷ among) ≡ true
+there : (p x : DocPlace) (among : List DocPlace) → has_place p among ≡ true → has_place p (x ∷ among) ≡ true
 there p x among is = by (same_place p x)
   where
     by : (b : Bool) → (b || has_place p among) ≡ true
@@ -55,9 +55,9 @@ or_true : (a b : Bool) → b ≡ true → (a || b) ≡ true
 or_true true b h = refl
 or_true false b h = h
 
-module _ (test : Place → Bool) where
+module _ (test : DocPlace → Bool) where
   -- a place that passes a test stands among these
-  any_at : (p : Place) (among : List Place) → has_place p among ≡ true → test p ≡ true → list_any test among ≡ true
+  any_at : (p : DocPlace) (among : List DocPlace) → has_place p among ≡ true → test p ≡ true → list_any test among ≡ true
   any_at p [] is passes = absurd cc
   any_at p (x ∷ among) is passes = by (same_place p x) refl (λ rest. any_at p among rest passes)
     where
@@ -66,7 +66,7 @@ module _ (test : Place → Bool) where
       by false e later = or_true (test x) (list_any test among) (later (ap (λ b. b || has_place p among) (sym e) ∙ is))
 
   -- what passes it among some places passes it among others that have them
-  any_among : (xs ys : List Place) → ((p : Place) → has_place p xs ≡ true → has_place p ys ≡ true) → list_any test xs ≡ true → list_any test ys ≡ true
+  any_among : (xs ys : List DocPlace) → ((p : DocPlace) → has_place p xs ≡ true → has_place p ys ≡ true) → list_any test xs ≡ true → list_any test ys ≡ true
   any_among [] ys have is = absurd cc
   any_among (x ∷ xs) ys have is = by (test x) refl (any_among xs ys (λ p h. have p (there p x xs h)))
     where
@@ -75,7 +75,7 @@ module _ (test : Place → Bool) where
       by false e later = later (ap (λ b. b || list_any test xs) (sym e) ∙ is)
 
   -- it rests on which places there are
-  same_any : (xs ys : List Place) → ((p : Place) → has_place p xs ≡ has_place p ys) → list_any test xs ≡ list_any test ys
+  same_any : (xs ys : List DocPlace) → ((p : DocPlace) → has_place p xs ≡ has_place p ys) → list_any test xs ≡ list_any test ys
   same_any xs ys same =
       both_ways (list_any test xs) (list_any test ys) (any_among xs ys (λ p h. sym (same p) ∙ h)) (any_among ys xs (λ p h. same p ∙ h))
 
@@ -83,10 +83,10 @@ module _ (test : Place → Bool) where
 
 module _ (modules : List Docs) where
   -- what the documents at these places lead to
-  abbrev pub found_from : List Place → List Place
+  abbrev pub found_from : List DocPlace → List DocPlace
   found_from among = places_found modules (flat_map (references_at modules) among)
 
-  spread : (p : Place) (among : List Place) → has_place p (found_from among) ≡ list_any (λ x. has_place p (places_found modules (references_at modules x))) among
+  spread : (p : DocPlace) (among : List DocPlace) → has_place p (found_from among) ≡ list_any (λ x. has_place p (places_found modules (references_at modules x))) among
   spread p [] = refl
   spread p (x ∷ among) =
       ap (has_place p) (filter_map-append _ (references_at modules x) (flat_map (references_at modules) among))
@@ -94,12 +94,12 @@ module _ (modules : List Docs) where
       ∙ ap (λ b. has_place p (places_found modules (references_at modules x)) || b) (spread p among)
 
   -- it rests on which places these are
-  pub same_found : (xs ys : List Place) → ((p : Place) → has_place p xs ≡ has_place p ys) → (p : Place) → has_place p (found_from xs) ≡ has_place p (found_from ys)
+  pub same_found : (xs ys : List DocPlace) → ((p : DocPlace) → has_place p xs ≡ has_place p ys) → (p : DocPlace) → has_place p (found_from xs) ≡ has_place p (found_from ys)
   same_found xs ys same p = spread p xs ∙ same_any _ xs ys same ∙ sym (spread p ys)
 
   -- one hop more
-  pub one_hop : (old new xs found : List Place) → ((p : Place) → has_place p old ≡ has_place p xs) → found ≡ found_from old
-      → ((p : Place) → has_place p new ≡ (has_place p old || has_place p found)) → (p : Place) → has_place p new ≡ has_place p (xs ++ found_from xs)
+  pub one_hop : (old new xs found : List DocPlace) → ((p : DocPlace) → has_place p old ≡ has_place p xs) → found ≡ found_from old
+      → ((p : DocPlace) → has_place p new ≡ (has_place p old || has_place p found)) → (p : DocPlace) → has_place p new ≡ has_place p (xs ++ found_from xs)
   one_hop old new xs found same is added p =
       added p ∙ ap (λ f. has_place p old || has_place p f) is
       ∙ (λ i. same p i || same_found old xs same p i)
@@ -108,11 +108,11 @@ module _ (modules : List Docs) where
 -- ---- a set of places
 
 -- a set that has one place more than another
-abbrev pub HasMore : List Place → List Place → Place → Type 0
-HasMore old new more = (p : Place)
+abbrev pub HasMore : List DocPlace → List DocPlace → DocPlace → Type 0
+HasMore old new more = (p : DocPlace)
     → list_any (λ other. is_eq (place_cmp p other)) new ≡ cond (is_eq (place_cmp more p)) true (list_any (λ other. is_eq (place_cmp p other)) old)
 
-same_turned : (p q : Place) → same_place p q ≡ same_place q p
+same_turned : (p q : DocPlace) → same_place p q ≡ same_place q p
 same_turned p q =
     both_ways (same_place p q) (same_place q p) (λ h. (place-Decides q p).1 (sym ((place-Decides p q).0 h))) (λ h. (place-Decides p q).1 (sym ((place-Decides q p).0 h)))
 
@@ -125,8 +125,8 @@ placed_last false false true = refl
 placed_last false false false = refl
 
 -- what is in it then
-pub one_more : (start old new yielded : List Place) (more : Place) → ((p : Place) → has_place p old ≡ (has_place p start || has_place p yielded))
-    → HasMore old new more → (p : Place) → has_place p new ≡ (has_place p start || has_place p (yielded ++ more ∷ []))
+pub one_more : (start old new yielded : List DocPlace) (more : DocPlace) → ((p : DocPlace) → has_place p old ≡ (has_place p start || has_place p yielded))
+    → HasMore old new more → (p : DocPlace) → has_place p new ≡ (has_place p start || has_place p (yielded ++ more ∷ []))
 one_more start old new yielded more so_far updates p =
     sym (by_order p new) ∙ updates p
     ∙ (λ i. cond (same_is i) true (by_order p old i))

@@ -15,7 +15,7 @@ use Rattle.ent_policy.specs.contracts.key.ReferenceOrd.TheImpl.Laws.{matches_eq-
 use Rattle.ent_policy.specs.declared.key.Reference.{Reference}
 use Rattle.ent_finder.specs.Slots.{Docs}
 use Rattle.lint_reach.specs.Reached.{has_place, place_found, places_found}
-use Rattle.lint_reach.specs.declared.place.Place.{Place}
+use Rattle.lint_reach.specs.declared.place.DocPlace.{DocPlace}
 use Rattle.lint_reach.specs.declared.search.Search.{Search}
 use Rattle.lint_reach.specs.proofs_only.Search.{IsSound, Leads, has_reference}
 use Rattle.lint_reach.proofs.Places.{HasMore, here, one_more, place-Decides, same_place}
@@ -57,13 +57,13 @@ with_true false b is = is
 -- ---- places
 
 -- one place more, if there is one
-pub put_none : (old : List Place) (o : Option Place) → o ≡ None
-    → (p : Place) → has_place p old ≡ (has_place p old || has_place p (option_to_list o))
+pub put_none : (old : List DocPlace) (o : Option DocPlace) → o ≡ None
+    → (p : DocPlace) → has_place p old ≡ (has_place p old || has_place p (option_to_list o))
 put_none old o none p =
     or_false (has_place p old) ∙ ap (λ x. has_place p old || has_place p (option_to_list x)) (sym none)
 
-pub put_one : (old new : List Place) (o : Option Place) (q : Place) → o ≡ Some q → HasMore old new q
-    → (p : Place) → has_place p new ≡ (has_place p old || has_place p (option_to_list o))
+pub put_one : (old new : List DocPlace) (o : Option DocPlace) (q : DocPlace) → o ≡ Some q → HasMore old new q
+    → (p : DocPlace) → has_place p new ≡ (has_place p old || has_place p (option_to_list o))
 put_one old new o q is updates p =
     one_more old old new [] q (λ x. or_false (has_place x old)) updates p
     ∙ ap (λ x. has_place p old || has_place p (option_to_list x)) (sym is)
@@ -72,7 +72,7 @@ module _ (modules : List Docs) where
   -- what one reference finds
   pub one_placed : (r : Reference) → places_found modules (r ∷ []) ≡ option_to_list (place_found modules r)
   one_placed r = by (place_found modules r) refl where
-    by : (o : Option Place) → place_found modules r ≡ o → places_found modules (r ∷ []) ≡ option_to_list o
+    by : (o : Option DocPlace) → place_found modules r ≡ o → places_found modules (r ∷ []) ≡ option_to_list o
     by None is = cc
     by (Some q) is = cc
 
@@ -96,7 +96,7 @@ module _ (modules : List Docs) where
     sound = sound;
     places = λ p. by p (place_found modules r) refl ∙ ap (λ ps. has_place p s.places.keys || has_place p ps) (sym (one_placed r));
   } where
-    there : (p q : Place) (b : Bool) → place_found modules r ≡ Some q → same_place p q ≡ b
+    there : (p q : DocPlace) (b : Bool) → place_found modules r ≡ Some q → same_place p q ≡ b
         → has_place p s.places.keys ≡ (has_place p s.places.keys || (b || false))
     there p q false is same = or_false (has_place p s.places.keys)
     there p q true is same =
@@ -104,22 +104,22 @@ module _ (modules : List Docs) where
         ap (λ x. has_place x s.places.keys) ((place-Decides p q).0 same) ∙ sound.found r q sought is in
         found ∙ ap (λ b. b || true) (sym found)
 
-    by : (p : Place) (o : Option Place) → place_found modules r ≡ o
+    by : (p : DocPlace) (o : Option DocPlace) → place_found modules r ≡ o
         → has_place p s.places.keys ≡ (has_place p s.places.keys || has_place p (option_to_list o))
     by p None is = or_false (has_place p s.places.keys)
     by p (Some q) is = there p q (same_place p q) is refl
 
   -- a reference is looked for
   pub leads_on_one : (before after : Search) (r : Reference) → IsSound modules before
-      → (o : Option Place) → o ≡ place_found modules r
-      → ((p : Place) → has_place p after.places.keys ≡ (has_place p before.places.keys || has_place p (option_to_list o)))
+      → (o : Option DocPlace) → o ≡ place_found modules r
+      → ((p : DocPlace) → has_place p after.places.keys ≡ (has_place p before.places.keys || has_place p (option_to_list o)))
       → HasOneMore before.references.keys after.references.keys r → Leads modules (r ∷ []) before after
   leads_on_one before after r sound o finds put references = record { sound = record { found = found }; places = places } where
-    places : (p : Place) → has_place p after.places.keys
+    places : (p : DocPlace) → has_place p after.places.keys
         ≡ (has_place p before.places.keys || has_place p (places_found modules (r ∷ [])))
     places p = put p ∙ ap (λ ps. has_place p before.places.keys || has_place p ps) (ap option_to_list finds ∙ sym (one_placed r))
 
-    by : (q : Reference) (p : Place) (b : Bool) → same_reference r q ≡ b
+    by : (q : Reference) (p : DocPlace) (b : Bool) → same_reference r q ≡ b
         → cond b true (has_reference q before.references.keys) ≡ true → place_found modules q ≡ Some p
         → has_place p after.places.keys ≡ true
     by q p true same sought is =
@@ -130,7 +130,7 @@ module _ (modules : List Docs) where
     by q p false same sought is =
         places p ∙ ap (λ b. b || has_place p (places_found modules (r ∷ []))) (sound.found q p sought is)
 
-    found : (q : Reference) (p : Place) → has_reference q after.references.keys ≡ true
+    found : (q : Reference) (p : DocPlace) → has_reference q after.references.keys ≡ true
         → place_found modules q ≡ Some p → has_place p after.places.keys ≡ true
     found q p sought is =
         by q p (same_reference r q) refl

@@ -15,7 +15,7 @@ use Rattle.ent_policy.specs.declared.key.Reference.{Reference}
 use Rattle.ent_finder.proofs.Held.{get-held}
 use Rattle.ent_finder.specs.Slots.{Slots, document_at, held, key_cmp, module_at}
 use Rattle.lint_reach.specs.Reached.{child_step, references_at, references_in, set_step}
-use Rattle.lint_reach.specs.declared.place.Place.{Place}
+use Rattle.lint_reach.specs.declared.place.DocPlace.{DocPlace}
 
 -- ---- the document at a place
 
@@ -25,7 +25,7 @@ document_held (s ∷ slots) zero key = get-held s key
 document_held (s ∷ slots) (suc number) key = document_held slots number key
 
 -- its references
-pub references_there : (slots : List Slots) (place : Place) (document : Option Tree) → document ≡ document_at (module_at slots place.number) place.key
+pub references_there : (slots : List Slots) (place : DocPlace) (document : Option Tree) → document ≡ document_at (module_at slots place.number) place.key
     → references_at (map held slots) place ≡ option_map_or (λ d. references_in (as_child d)) document []
 references_there slots place document is =
     ap (λ d. option_map_or (λ t. references_in (as_child t)) d []) (document_held slots place.number place.key ∙ sym is)

@@ -12,8 +12,8 @@ use Rattle.ent_policy.specs.declared.key.Reference.{Reference}
 use Rattle.ent_finder.specs.Finding.{resolved}
 use Rattle.ent_finder.specs.Slots.{Docs, module_at}
 use Rattle.ent_walk.specs.Answer.{most_hops}
-use Rattle.lint_reach.specs.contracts.place.PlacePartialEq.TheImpl as places
-use Rattle.lint_reach.specs.declared.place.Place.{Place}
+use Rattle.lint_reach.specs.contracts.place.DocPlacePartialEq.TheImpl as places
+use Rattle.lint_reach.specs.declared.place.DocPlace.{DocPlace}
 
 -- ---- references
 
@@ -32,17 +32,17 @@ abbrev pub references_in : Child → List Reference
 references_in = fold-Child (List Reference) (List Reference) child_step set_step
 
 -- the references of the document at a place, none where there is no document
-abbrev pub references_at : List Docs → Place → List Reference
+abbrev pub references_at : List Docs → DocPlace → List Reference
 references_at modules place = option_map_or (λ document. references_in (as_child document)) (get (module_at modules place.number) place.key) []
 
 -- ---- places
 
 -- the place of the document that a reference finds, if it finds one
-abbrev pub place_found : List Docs → Reference → Option Place
+abbrev pub place_found : List Docs → Reference → Option DocPlace
 place_found modules reference = option_map (λ found. record { number = found.0; key = key_of found.1 }) (resolved reference modules)
 
 -- the places of the documents that these references find
-abbrev pub places_found : List Docs → List Reference → List Place
+abbrev pub places_found : List Docs → List Reference → List DocPlace
 places_found modules references = filter_map (place_found modules) references
 
 -- the root, if there is one
@@ -51,15 +51,15 @@ roots None = []
 roots (Some root) = root ∷ []
 
 -- the places to which the root leads over at most so many references in documents
-abbrev pub places_within : ℕ → List Docs → Option Reference → List Place
+abbrev pub places_within : ℕ → List Docs → Option Reference → List DocPlace
 places_within zero modules root = places_found modules (roots root)
 places_within (suc hops) modules root =
     places_within hops modules root ++ places_found modules (flat_map (references_at modules) (places_within hops modules root))
 
 -- whether a place is among these
-abbrev pub has_place : Place → List Place → Bool
+abbrev pub has_place : DocPlace → List DocPlace → Bool
 has_place place among = list_any ((places.ghosts).eq place) among
 
 -- whether the root leads to the document at a place: over at most six references, as in an evaluation, of which the root is none
-abbrev pub is_reached : List Docs → Option Reference → Place → Bool
+abbrev pub is_reached : List Docs → Option Reference → DocPlace → Bool
 is_reached modules root place = has_place place (places_within most_hops modules root)

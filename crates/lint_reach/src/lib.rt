@@ -6,5 +6,5 @@ mod reached;
 mod search;
 mod walk;
 
-pub use place::Place;
+pub use place::DocPlace;
 pub use reached::{Reached, reached_places};

@@ -7,17 +7,17 @@ use std::alloc::{AllocError, Global};
 
 /// Where a document is held: the number of its module, and its key. Places order by module, then by key.
 #[derive(PartialEq, Eq, PartialOrd, Ord, Drop)]
-pub struct Place {
+pub struct DocPlace {
     pub number: usize,
     pub key: DocKey,
 }
 
-impl Place {
+impl DocPlace {
     /// An equal place.
-    pub(crate) fn copy(&self, alloc: Global) -> Result<Place, AllocError>
+    pub(crate) fn copy(&self, alloc: Global) -> Result<DocPlace, AllocError>
         ensures { IfOk result (λ p. p ≡ self.now) }
     {
-        Ok(Place {
+        Ok(DocPlace {
             number: self.number,
             key: self.key.copy(alloc)?,
         })

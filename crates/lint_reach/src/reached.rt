@@ -3,10 +3,10 @@
 ghost use Rattle.std.specs.Prelude.{◌≡◌, IfOk, map};
 ghost use Rattle.ent_finder.specs.Slots.{held};
 ghost use Rattle.lint_reach.specs.Reached.{has_place, is_reached, places_found, roots};
-ghost use Rattle.lint_reach.specs.declared.place.Place.{Place};
+ghost use Rattle.lint_reach.specs.declared.place.DocPlace.{DocPlace};
 ghost use Rattle.lint_reach.specs.proofs_only.Search.{IsSound};
 
-use crate::place::Place;
+use crate::place::DocPlace;
 use crate::search::Search;
 use crate::walk::look_at_all;
 use ent_finder::Policies;
@@ -21,14 +21,14 @@ const MOST_HOPS: usize = 6;
 /// The places to which the root leads, each once.
 #[derive(Drop)]
 pub struct Reached {
-    places: BTreeSet<Place>,
+    places: BTreeSet<DocPlace>,
 }
 
 impl Model for Reached {
     ghost use Rattle.std.specs.Prelude.{List};
-    ghost use Rattle.lint_reach.specs.declared.place.Place.{Place};
+    ghost use Rattle.lint_reach.specs.declared.place.DocPlace.{DocPlace};
 
-    ghost Value = { List Place };
+    ghost Value = { List DocPlace };
 
     ghost view = { λ r. r.places.keys };
 }
@@ -37,7 +37,7 @@ impl Reached {
     /// Whether a place is among them, in time logarithmic in their number. It takes no memory.
     ///
     /// Its contract is an equation.
-    pub fn has(&self, place: &Place) -> bool
+    pub fn has(&self, place: &DocPlace) -> bool
         ensures { result ≡ has_place place.now self.now }
     {
         self.places.contains(place)
@@ -51,7 +51,7 @@ fn begin<P: Policies>(
     root: &Option<Reference>,
 ) -> Result<Search, AllocError>
     ensures sound { IfOk result (IsSound (map held (P.slots policies.now))) }
-    ensures found { IfOk result (λ s. (place : Place) → has_place place s.places.keys
+    ensures found { IfOk result (λ s. (place : DocPlace) → has_place place s.places.keys
         ≡ has_place place (places_found (map held (P.slots policies.now)) (roots root.now))) }
 {
     let mut search = Search::new(alloc);
@@ -75,7 +75,7 @@ pub fn reached_places<P: Policies>(
     policies: &P,
     root: &Option<Reference>,
 ) -> Result<Reached, AllocError>
-    ensures { IfOk result (λ r. (place : Place)
+    ensures { IfOk result (λ r. (place : DocPlace)
         → has_place place r ≡ is_reached (map held (P.slots policies.now)) root.now place) }
 {
     let mut search = begin(alloc, policies, root)?;

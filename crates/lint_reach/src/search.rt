@@ -4,10 +4,10 @@ ghost use Rattle.std.specs.Prelude.{◌≡◌, ◌∷◌, ◌||◌, [], IfOk, On
 ghost use Rattle.std.specs.Option.{option_to_list};
 ghost use Rattle.ent_finder.specs.Slots.{held};
 ghost use Rattle.lint_reach.specs.Reached.{has_place, place_found};
-ghost use Rattle.lint_reach.specs.declared.place.Place.{Place};
+ghost use Rattle.lint_reach.specs.declared.place.DocPlace.{DocPlace};
 ghost use Rattle.lint_reach.specs.proofs_only.Search.{IsSound, Leads};
 
-use crate::place::Place;
+use crate::place::DocPlace;
 use ent_finder::Policies;
 use ent_policy::Reference;
 use std::alloc::{AllocError, Global};
@@ -17,7 +17,7 @@ use std::collections::BTreeSet;
 #[derive(Drop)]
 pub(crate) struct Search {
     pub(crate) references: BTreeSet<Reference>,
-    pub(crate) places: BTreeSet<Place>,
+    pub(crate) places: BTreeSet<DocPlace>,
 }
 
 impl Search {
@@ -52,7 +52,7 @@ impl Search {
     }
 
     /// The places of the documents that were found.
-    pub(crate) fn found(&self, alloc: Global) -> Result<Vec<Place>, AllocError>
+    pub(crate) fn found(&self, alloc: Global) -> Result<Vec<DocPlace>, AllocError>
         ensures { IfOk result (λ found. found.items ≡ self.now.places.keys) }
     {
         let mut found = Vec::new(alloc);
@@ -68,21 +68,21 @@ fn find<P: Policies>(
     alloc: Global,
     policies: &P,
     reference: &Reference,
-) -> Result<Option<Place>, AllocError>
+) -> Result<Option<DocPlace>, AllocError>
     ensures { IfOk result (λ found. found ≡ place_found (map held (P.slots policies.now)) reference.now) }
 {
     match policies.resolve(reference) {
         None => Ok(None),
         Some((number, document)) => {
             let key = document.key(alloc)?;
-            Ok(Some(Place { number, key }))
+            Ok(Some(DocPlace { number, key }))
         }
     }
 }
 
 /// Puts a place among others, if there is one.
-fn put(places: &mut BTreeSet<Place>, found: Option<Place>) -> Result<(), AllocError>
-    ensures { OnOk result ((place : Place) → has_place place places.new.keys
+fn put(places: &mut BTreeSet<DocPlace>, found: Option<DocPlace>) -> Result<(), AllocError>
+    ensures { OnOk result ((place : DocPlace) → has_place place places.new.keys
         ≡ (has_place place places.old.keys || has_place place (option_to_list found))) }
 {
     match found {

@@ -6,7 +6,7 @@ ghost use Rattle.ent_finder.specs.Slots.{held};
 ghost use Rattle.lint_reach.specs.Reached.{references_at, references_in};
 ghost use Rattle.lint_reach.specs.proofs_only.Search.{IsSound, Leads};
 
-use crate::place::Place;
+use crate::place::DocPlace;
 use crate::search::Search;
 use ent_finder::Policies;
 use ent_policy::{Child, Tree};
@@ -53,7 +53,7 @@ fn look_in_children<P: Policies>(
 fn look_at<P: Policies>(
     alloc: Global,
     policies: &P,
-    place: &Place,
+    place: &DocPlace,
     search: &mut Search,
 ) -> Result<(), AllocError>
     requires { IsSound (map held (P.slots policies.now)) search.old }
@@ -73,7 +73,7 @@ fn look_at<P: Policies>(
 pub(crate) fn look_at_all<P: Policies>(
     alloc: Global,
     policies: &P,
-    places: &[Place],
+    places: &[DocPlace],
     search: &mut Search,
 ) -> Result<(), AllocError>
     requires { IsSound (map held (P.slots policies.now)) search.old }

@@ -3,7 +3,7 @@ use Rattle.std.proofs.Common.{◌≡◌, ◌⊎◌, inl, inr, ℕ, zero, suc, Li
 use Rattle.std.proofs.lemmas.List.{append-nil}
 use Rattle.memo_bags.proofs.Growing.{get_more}
 use Rattle.memo_answers.specs.Told.{AreAmong, HasWay, IsPut}
-use Rattle.memo_answers.specs.declared.told.Told.{Told}
+use Rattle.memo_answers.specs.declared.told.ToldAnswer.{ToldAnswer}
 
 -- in the second one
 pub behind : {A : Type 0} (xs ys : List A) (n : ℕ) (x : A) → slice_get ys n ≡ Some x → (k : ℕ) × (slice_get (xs ++ ys) k ≡ Some x)
@@ -24,21 +24,21 @@ either (y ∷ xs) ys (suc n) x at = further (either xs ys n x at) where
 -- ---- cases
 
 -- a case of a way is among more
-pub way_behind : (xs ys : List Told) (way : List ℕ) (c : Told) → HasWay ys way c → HasWay (xs ++ ys) way c
+pub way_behind : (xs ys : List ToldAnswer) (way : List ℕ) (c : ToldAnswer) → HasWay ys way c → HasWay (xs ++ ys) way c
 way_behind xs ys way c has =
     let later = behind xs ys has.0 c has.1.0 in
     (later.0, (later.1, has.1.1))
 
-pub way_before : (xs ys : List Told) (way : List ℕ) (c : Told) → HasWay xs way c → HasWay (xs ++ ys) way c
+pub way_before : (xs ys : List ToldAnswer) (way : List ℕ) (c : ToldAnswer) → HasWay xs way c → HasWay (xs ++ ys) way c
 way_before xs ys way c has = (has.0, (get_more xs ys has.0 c has.1.0, has.1.1))
 
 -- the first ones are dropped
-pub among_behind : (xs ys new none : List Told) → new ≡ ys → none ≡ [] → AreAmong (xs ++ ys) (new ++ none)
+pub among_behind : (xs ys new none : List ToldAnswer) → new ≡ ys → none ≡ [] → AreAmong (xs ++ ys) (new ++ none)
 among_behind xs ys new none same is place d at =
     behind xs ys place d (ap (λ l. slice_get l place) (sym (append-nil ys) ∙ ap₂ (λ l m. l ++ m) (sym same) (sym is)) ∙ at)
 
 -- one is put behind those that stay
-pub put_behind : (c : Told) (first xs old new : List Told) → AreAmong first (xs ++ old) → IsPut c old new → IsPut c first (xs ++ new)
+pub put_behind : (c : ToldAnswer) (first xs old new : List ToldAnswer) → AreAmong first (xs ++ old) → IsPut c old new → IsPut c first (xs ++ new)
 put_behind c first xs old new among put place d at = by (either xs new place d at) where
   there : (d ≡ c) ⊎ ((k : ℕ) × (slice_get old k ≡ Some d)) → (d ≡ c) ⊎ ((k : ℕ) × (slice_get first k ≡ Some d))
   there (inl same) = inl same

@@ -7,7 +7,7 @@ use Rattle.ent_request.proofs.Numbering.{all_at}
 use Rattle.ent_request.specs.Listed.{listed}
 use Rattle.ent_request.specs.Looks.{Looks}
 use Rattle.ent_request.specs.declared.question.Question.{Question}
-use Rattle.ent_request.specs.declared.readers.Place.TheVariants.{Person, Action, Resource}
+use Rattle.ent_request.specs.declared.readers.NamePlace.TheVariants.{Person, Action, Resource}
 use Rattle.ent_request.specs.declared.request.Request.{Request}
 use Rattle.memo_heard.specs.Heard.{Came}
 use Rattle.memo_bags.specs.Findings.{AreFindings}
@@ -17,15 +17,15 @@ use Rattle.memo_bags.proofs.Growing.{some_same, starts_itself, starts_then}
 use Rattle.memo_bags.proofs.Learning.{rows_more}
 use Rattle.memo_plan.specs.Plan.{IsTyped, ItemTyped, Scene, task_came}
 use Rattle.memo_plan.specs.Signed.{AreTested, Grows}
-use Rattle.memo_plan.specs.declared.task.Task.{Task}
+use Rattle.memo_plan.specs.declared.task.TestTask.{TestTask}
 use Rattle.memo_tests.specs.Tested.{ComesTo, IsTest, came_of}
-use Rattle.memo_tests.specs.declared.outcome.Outcome.{Outcome}
+use Rattle.memo_tests.specs.declared.outcome.TestOutcome.{TestOutcome}
 use Rattle.memo_tests.specs.declared.test.Test.{Test}
 use Rattle.memo_answers.specs.Known.{AreKnown, StandsThere, test_of}
 use Rattle.memo_answers.specs.proofs_only.Learning.{LearnsAt}
 use Rattle.memo_answers.specs.proofs_only.Signing.{Follows, HasSame, HasTest, IsSigning, TellsAt, request_of, scene_of}
 use Rattle.memo_answers.specs.declared.signing.Signing.{Signing}
-use Rattle.memo_answers.specs.declared.tests.Tests.{Tests}
+use Rattle.memo_answers.specs.declared.tests.EntryTests.{EntryTests}
 use Rattle.memo_answers.proofs.Kept.{learns_keeps, learns_tests, tells_grow, tells_still, tests_grow}
 
 module _ {L : Type 0} where
@@ -96,7 +96,7 @@ module _ {L : Type 0} (looks : L → Looks) where
   }
 
   -- a test stands at its place still
-  pub has_still : (s t : Signing L) (place : ℕ) (x : Task) → Follows looks s t → HasTest looks s place x → HasTest looks t place x
+  pub has_still : (s t : Signing L) (place : ℕ) (x : TestTask) → Follows looks s t → HasTest looks s place x → HasTest looks t place x
   has_still s t place x follows has = (follows.signing has.0, subst (λ es. StandsThere es place x) (sym follows.same.entries) has.1)
 
   -- ---- one step after the other
@@ -164,7 +164,7 @@ module _ {L : Type 0} (looks : L → Looks) where
   }
 
   -- a test that learns
-  pub follows_learnt : {E : Type 0} (s : Signing L) (findings : Findings) (tests : Tests) (o : Outcome) (place : ℕ) (t : Task) (r : Result ℕ E) → IsSigning looks s → StandsThere s.entries.now place t
+  pub follows_learnt : {E : Type 0} (s : Signing L) (findings : Findings) (tests : EntryTests) (o : TestOutcome) (place : ℕ) (t : TestTask) (r : Result ℕ E) → IsSigning looks s → StandsThere s.entries.now place t
       → Begins findings.bags s.findings.bags → AreFindings (looks s.held.now) s.questions findings → IsAt findings.people s.person.now → IsAt findings.actions s.action.now → IsAt findings.resources s.resource.now
       → LearnsAt (looks s.held.now) s.questions s.findings.bags findings.bags (request_of s) o s.tests.list.items tests.list.items place r
       → task_came t (scene_of looks s) ≡ came_of s.questions o → Follows looks s (record s { findings = findings; tests = tests })
@@ -195,7 +195,7 @@ module _ {L : Type 0} (looks : L → Looks) where
   }
 
   -- what is known at first, and at the end
-  pub signing_begins : (s : Signing L) (questions : List Question) (findings : Findings) (tests : Tests) → s.questions ≡ questions → s.findings ≡ findings → s.tests ≡ tests → s.request ≡ None
+  pub signing_begins : (s : Signing L) (questions : List Question) (findings : Findings) (tests : EntryTests) → s.questions ≡ questions → s.findings ≡ findings → s.tests ≡ tests → s.request ≡ None
       → AreKnown (looks s.held.now) s.entries.now s.person.now s.action.now s.resource.now questions findings tests.list.items → IsSigning looks s
   signing_begins s questions findings tests those found told none known = record {
     known = rw (those, found, told) known;
@@ -208,16 +208,16 @@ module _ {L : Type 0} (looks : L → Looks) where
       rw (sym same.held, sym same.entries, sym same.person, sym same.action, sym same.resource) (follows.signing is).known
 
   -- what is known of a test at its place
-  pub known_there : (s : Signing L) (place : ℕ) (t : Task) (x : Test) → HasTest looks s place t → slice_get s.tests.list.items place ≡ Some x → IsTest (looks s.held.now) s.questions s.findings.bags (test_of t) x
+  pub known_there : (s : Signing L) (place : ℕ) (t : TestTask) (x : Test) → HasTest looks s place t → slice_get s.tests.list.items place ≡ Some x → IsTest (looks s.held.now) s.questions s.findings.bags (test_of t) x
   known_there s place t x has at =
       let known = has.0.known.tests place t has.1 in
       subst (λ y. IsTest (looks s.held.now) s.questions s.findings.bags (test_of t) y) (some_same known.0 x (sym known.1.0 ∙ at)) known.1.1
 
-  pub is_there : (s : Signing L) (place : ℕ) (t : Task) → HasTest looks s place t → place < length s.tests.list.items
+  pub is_there : (s : Signing L) (place : ℕ) (t : TestTask) → HasTest looks s place t → place < length s.tests.list.items
   is_there s place t has = let known = has.0.known.tests place t has.1 in slice_get_within s.tests.list.items place known.0 known.1.0
 
   -- a number that a request comes to tells what came of the test
-  pub tells_known : (s : Signing L) (place : ℕ) (t : Task) (x : Test) (o : Option ℕ) → HasTest looks s place t → slice_get s.tests.list.items place ≡ Some x
+  pub tells_known : (s : Signing L) (place : ℕ) (t : TestTask) (x : Test) (o : Option ℕ) → HasTest looks s place t → slice_get s.tests.list.items place ≡ Some x
       → IfSome o (ComesTo (looks s.held.now) s.questions s.findings.bags (request_of s) x) → IfSome o (λ n. TellsAt s place n (task_came t (scene_of looks s)))
   tells_known s place t x None has at comes = tt
   tells_known s place t x (Some n) has at comes =

@@ -10,13 +10,13 @@ use Rattle.memo_heard.specs.declared.tested.Tested.{Tested}
 use Rattle.memo_plan.proofs.Evaluating.{heard_by}
 use Rattle.memo_plan.specs.Alone.{task_part}
 use Rattle.memo_plan.specs.Plan.{task_came}
-use Rattle.memo_plan.specs.declared.task.Task.{Task}
+use Rattle.memo_plan.specs.declared.task.TestTask.{TestTask}
 use Rattle.memo_tests.specs.Tested.{came_of}
 use Rattle.memo_answers.specs.proofs_only.Signing.{request_of, scene_of}
 use Rattle.memo_answers.specs.declared.signing.Signing.{Signing}
 
 -- an outcome by what was noted is what came of the test
-pub outcome_heard : {L : Type 0} (looks : L → Looks) (s : Signing L) (t : Task) (before after : Walk L) (tested : Tested) (questions : List Question) (asked : List ℕ) (failed : Bool)
+pub outcome_heard : {L : Type 0} (looks : L → Looks) (s : Signing L) (t : TestTask) (before after : Walk L) (tested : Tested) (questions : List Question) (asked : List ℕ) (failed : Bool)
     → before.lender.held ≡ s.held.now → before.lender.request ≡ request_of s → before.notes.questions ≡ Some [] → before.notes.failed ≡ false
     → Comes (in_walk looks before task_part t) before after tested → IfSome after.notes.questions (λ qs. at_numbers questions asked ≡ qs) → failed ≡ after.notes.failed
     → task_came t (scene_of looks s) ≡ came_of questions (record { tested = tested; asked = asked; failed = failed })

@@ -18,10 +18,10 @@ use Rattle.memo_bags.proofs.Growing.{get_set, some_same, starts_get, starts_itse
 use Rattle.memo_bags.proofs.Learning.{numbers_more}
 use Rattle.memo_plan.specs.declared.task.Entry.{Entry}
 use Rattle.memo_plan.specs.declared.task.Item.TheVariants as item
-use Rattle.memo_plan.specs.declared.task.Task.{Task}
-use Rattle.memo_plan.specs.declared.task.Task.TheVariants as task
+use Rattle.memo_plan.specs.declared.task.TestTask.{TestTask}
+use Rattle.memo_plan.specs.declared.task.TestTask.TheVariants as task
 use Rattle.memo_tests.specs.Tested.{IsTest, Rests, came_of}
-use Rattle.memo_tests.specs.declared.outcome.Outcome.{Outcome}
+use Rattle.memo_tests.specs.declared.outcome.TestOutcome.{TestOutcome}
 use Rattle.memo_tests.specs.declared.test.Test.{Test}
 use Rattle.memo_tests.proofs.Resting.{condition_rests, decides_rests, target_rests}
 use Rattle.memo_tests.proofs.Telling.{test_at, test_grows}
@@ -78,7 +78,7 @@ tells_once questions tests place n c d first second =
 
 -- the outcome of a number, in the test that stands at a place
 pub outcome_there : (questions : List Question) (tests : List Test) (place n : ℕ) (c : Came) (x : Test) → TellsIn questions tests place n c → slice_get tests place ≡ Some x
-    → (o : Outcome) × ((slice_get x.outcomes.items n ≡ Some o) × (c ≡ came_of questions o))
+    → (o : TestOutcome) × ((slice_get x.outcomes.items n ≡ Some o) × (c ≡ came_of questions o))
 outcome_there questions tests place n c x tells at =
     let o = tells.1.1.0 in
     let one : tells.0 ≡ x = some_same tells.0 x (sym tells.1.0 ∙ at) in
@@ -103,21 +103,21 @@ get_other (x ∷ xs) (suc i) zero y apart = refl
 get_other (x ∷ xs) (suc i) (suc j) y apart = get_other xs i j y (λ same. apart (ap suc same))
 
 -- one test stands at a place
-stands_once : (entries : List Entry) (place : ℕ) (t u : Task) → StandsThere entries place t → StandsThere entries place u → t ≡ u
+stands_once : (entries : List Entry) (place : ℕ) (t u : TestTask) → StandsThere entries place t → StandsThere entries place u → t ≡ u
 stands_once entries place t u first second =
     let one : first.0 ≡ second.0 = some_same first.0 second.0 (sym first.1.0 ∙ second.1.0) in
     same t u (sym first.1.1 ∙ ap (λ (e : Entry). e.item) one ∙ second.1.1) where
-      same : (t u : Task) → item.Test t ≡ item.Test u → t ≡ u
+      same : (t u : TestTask) → item.Test t ≡ item.Test u → t ≡ u
       same t u e = cc
 
 -- each test rests on what it asks
-pub task_rests : (t : Task) → Rests (test_of t)
+pub task_rests : (t : TestTask) → Rests (test_of t)
 task_rests (task.Target x) = target_rests x
 task_rests (task.RuleTarget rule) = target_rests rule.target
 task_rests (task.Condition within rule) = condition_rests within.definitions rule.condition
 task_rests (task.Decision within rule) = decides_rests within.definitions within.path rule
 
-module _ {E : Type 0} (looks : Looks) (questions : List Question) (old new : List Contents) (request : Request) (o : Outcome) (before after : List Test) (place : ℕ) (r : Result ℕ E) (learns : LearnsAt looks questions old new request o before after place r) where
+module _ {E : Type 0} (looks : Looks) (questions : List Question) (old new : List Contents) (request : Request) (o : TestOutcome) (before after : List Test) (place : ℕ) (r : Result ℕ E) (learns : LearnsAt looks questions old new request o before after place r) where
   pub learns_keeps : KeepOutcomes before after
   learns_keeps at x there = by (nat_eq at place) refl where
     by : (b : Bool) → nat_eq at place ≡ b → (y : Test) × ((slice_get after at ≡ Some y) × Begins y.outcomes.items x.outcomes.items)
@@ -132,7 +132,7 @@ module _ {E : Type 0} (looks : Looks) (questions : List Question) (old new : Lis
         )
     by false apart = (x, (ap (λ xs. slice_get xs at) learns.is ∙ get_other before place at learns.learnt (eqb-false at place apart) ∙ there, starts_itself x.outcomes.items x.outcomes.items refl))
 
-  pub learns_tests : (entries : List Entry) (t : Task) → Begins new old → StandsThere entries place t → test_of t looks request ≡ came_of questions o
+  pub learns_tests : (entries : List Entry) (t : TestTask) → Begins new old → StandsThere entries place t → test_of t looks request ≡ came_of questions o
       → AreTestsOf looks questions old entries before → AreTestsOf looks questions new entries after
   learns_tests entries t bags stands came are at u there = by (nat_eq at place) refl where
     by : (b : Bool) → nat_eq at place ≡ b → (x : Test) × ((slice_get after at ≡ Some x) × IsTest looks questions new (test_of u) x)

@@ -3,8 +3,8 @@
 ghost use Rattle.std.specs.Prelude.{◌≡◌, [], IfSome};
 ghost use Rattle.memo_answers.specs.Told.{AreAmong, HasWay, IsPut};
 
-use crate::marked::{Marked, mark};
-use crate::told::Told;
+use crate::marked::{MarkedCases, mark};
+use crate::told::ToldAnswer;
 use std::alloc::{AllocError, Global};
 use std::marker::Model;
 use std::mem;
@@ -12,15 +12,15 @@ use std::mem;
 /// Cases, the older ones apart: once the latest are many, the older ones are dropped.
 #[derive(Drop)]
 pub struct ToldCases {
-    older: Marked,
-    latest: Marked,
+    older: MarkedCases,
+    latest: MarkedCases,
 }
 
 impl Model for ToldCases {
     ghost use Rattle.std.specs.Prelude.{◌++◌, List};
-    ghost use Rattle.memo_answers.specs.declared.told.Told.{Told};
+    ghost use Rattle.memo_answers.specs.declared.told.ToldAnswer.{ToldAnswer};
 
-    ghost Value = { List Told };
+    ghost Value = { List ToldAnswer };
 
     ghost view = { λ c. c.older ++ c.latest };
 }
@@ -33,15 +33,15 @@ impl ToldCases {
         ensures { result ≡ [] }
     {
         ToldCases {
-            older: Marked::new(alloc),
-            latest: Marked::new(alloc),
+            older: MarkedCases::new(alloc),
+            latest: MarkedCases::new(alloc),
         }
     }
 
     /// A case of a way, if one is found.
     ///
     /// Its contract leaves open: when it answers `None`, which it may always: its caller then joins or evaluates.
-    pub fn find(&self, way: &[u32]) -> Option<&Told>
+    pub fn find(&self, way: &[u32]) -> Option<&ToldAnswer>
         ensures { IfSome result (λ c. HasWay self.now way.now c.now) }
     {
         let mark = mark(way);
@@ -56,7 +56,7 @@ impl ToldCases {
     ///
     /// Its contract leaves open: whether the case is kept, which cases go, and in which order they stand: one that does
     /// nothing would do.
-    pub fn put(&mut self, alloc: Global, case: Told) -> Result<(), AllocError>
+    pub fn put(&mut self, alloc: Global, case: ToldAnswer) -> Result<(), AllocError>
         ensures { IsPut case self.old self.new }
     {
         self.make_room(alloc);
@@ -68,7 +68,7 @@ impl ToldCases {
         ensures { AreAmong self.old self.new }
     {
         if self.latest.are_many() {
-            self.older = mem::replace(&mut self.latest, Marked::new(alloc));
+            self.older = mem::replace(&mut self.latest, MarkedCases::new(alloc));
         }
     }
 }

@@ -12,6 +12,6 @@ mod way;
 pub use cases::ToldCases;
 pub use law::{answers_are_told, cases_stay_told, cases_tell};
 pub use signing::goes_on;
-pub use tests::Tests;
-pub use told::Told;
+pub use tests::EntryTests;
+pub use told::ToldAnswer;
 pub use way::way_of;

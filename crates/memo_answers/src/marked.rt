@@ -3,7 +3,7 @@
 ghost use Rattle.std.specs.Prelude.{◌≡◌, [], IfSome, IsTrue};
 ghost use Rattle.memo_answers.specs.Told.{HasWay, IsPut};
 
-use crate::told::Told;
+use crate::told::ToldAnswer;
 use std::alloc::{AllocError, Global};
 use std::collections::BTreeMap;
 use std::marker::Model;
@@ -17,27 +17,27 @@ const MANY_NUMBERS: usize = 131_072;
 /// Cases, and the place of the latest one of each mark of a way. A case is taken by its whole way alone, so that of two
 /// ways with one mark one isn't found.
 #[derive(Drop)]
-pub(crate) struct Marked {
-    cases: Vec<Told>,
+pub(crate) struct MarkedCases {
+    cases: Vec<ToldAnswer>,
     places: BTreeMap<u64, usize>,
     numbers: usize,
 }
 
-impl Model for Marked {
+impl Model for MarkedCases {
     ghost use Rattle.std.specs.Prelude.{List};
-    ghost use Rattle.memo_answers.specs.declared.told.Told.{Told};
+    ghost use Rattle.memo_answers.specs.declared.told.ToldAnswer.{ToldAnswer};
 
-    ghost Value = { List Told };
+    ghost Value = { List ToldAnswer };
 
     ghost view = { λ m. m.cases.items };
 }
 
-impl Marked {
+impl MarkedCases {
     // No cases, for which nothing is allocated.
-    pub(crate) fn new(alloc: Global) -> Marked
+    pub(crate) fn new(alloc: Global) -> MarkedCases
         ensures { result ≡ [] }
     {
-        Marked {
+        MarkedCases {
             cases: Vec::new(alloc),
             places: BTreeMap::new(alloc),
             numbers: 0,
@@ -50,7 +50,7 @@ impl Marked {
     }
 
     // A case of a way that has this mark, if one is found.
-    pub(crate) fn find(&self, mark: u64, way: &[u32]) -> Option<&Told>
+    pub(crate) fn find(&self, mark: u64, way: &[u32]) -> Option<&ToldAnswer>
         ensures { IfSome result (λ c. HasWay self.now way.now c.now) }
     {
         let place = *self.places.get(&mark)?;
@@ -63,7 +63,7 @@ impl Marked {
     }
 
     // Puts a case behind the others. After a refusal it may be there or not.
-    pub(crate) fn put(&mut self, case: Told) -> Result<(), AllocError>
+    pub(crate) fn put(&mut self, case: ToldAnswer) -> Result<(), AllocError>
         ensures { IsPut case self.old self.new }
     {
         let place = self.cases.len();

@@ -6,7 +6,7 @@ ghost use Rattle.ent_request.specs.Questions.{AreNumbers};
 ghost use Rattle.memo_plan.specs.Plan as below;
 ghost use Rattle.memo_plan.specs.Plan.{IsTyped, TaskTyped, task_came, task_goes_on};
 ghost use Rattle.memo_plan.specs.Signed as signed;
-ghost use Rattle.memo_plan.specs.declared.task.Task.{Task};
+ghost use Rattle.memo_plan.specs.declared.task.TestTask.{TestTask};
 ghost use Rattle.memo_heard.specs.CameBy.{came_by};
 ghost use Rattle.memo_heard.specs.Heard.{Came, Gist};
 ghost use Rattle.memo_tests.specs.Tested.{came_of};
@@ -14,14 +14,14 @@ ghost use Rattle.memo_answers.specs.Told.{Signs, comes_of};
 ghost use Rattle.memo_answers.specs.proofs_only.Signing.{CameThere, Follows, HasTest, IsSigning, TellsAt, request_of};
 ghost use Rattle.memo_answers.specs.proofs_only.Signing.{scene_of};
 
-use crate::tests::Tests;
+use crate::tests::EntryTests;
 use ent_request::{LookUps, Questions, Request};
 use ent_values::Text;
 use ent_walk::{Targeted, Truth, Walk};
 use memo_bags::{Findings, Scene};
 use memo_heard::Tested;
-use memo_plan::{Entry, Outcomes, Step, Task, sign};
-use memo_tests::Outcome;
+use memo_plan::{Entry, Outcomes, TestTask, WayStep, sign};
+use memo_tests::TestOutcome;
 use std::alloc::{AllocError, Global};
 
 /// Gives the numbers of the outcomes of the tests of entries for a listed request, over what is held: of those that are
@@ -37,7 +37,7 @@ pub(crate) struct Signing<'a, L> {
     pub(crate) request: Option<Request>,
     pub(crate) questions: Questions,
     pub(crate) findings: Findings,
-    pub(crate) tests: Tests,
+    pub(crate) tests: EntryTests,
 }
 
 impl<L: LookUps> Outcomes for Signing<'_, L> {
@@ -49,7 +49,7 @@ impl<L: LookUps> Outcomes for Signing<'_, L> {
 
     ghost follows = { λ after before. Follows L.looks before after };
 
-    fn step(&mut self, place: usize, task: &Task) -> Result<Step, AllocError> {
+    fn step(&mut self, place: usize, task: &TestTask) -> Result<WayStep, AllocError> {
         let number = self.number(place, task)?;
         self.step_at(place, number, task)
     }
@@ -69,7 +69,7 @@ impl<L: LookUps> Signing<'_, L> {
     }
 
     // The number of the outcome of the test at a place, which is learnt if it isn't known.
-    fn number(&mut self, place: usize, task: &Task) -> Result<usize, AllocError>
+    fn number(&mut self, place: usize, task: &TestTask) -> Result<usize, AllocError>
         requires typed { TaskTyped task.now }
         requires test { HasTest L.looks self.old place task.now }
         ensures comes { IfOk result (λ n.
@@ -84,8 +84,8 @@ impl<L: LookUps> Signing<'_, L> {
 
     // The number of the outcome that is known of the test at a place, if one is.
     fn known(&mut self, place: usize) -> Result<Option<usize>, AllocError>
-        requires { (t : Task) × HasTest L.looks self.old place t }
-        ensures comes { (t : Task) → HasTest L.looks self.old place t
+        requires { (t : TestTask) × HasTest L.looks self.old place t }
+        ensures comes { (t : TestTask) → HasTest L.looks self.old place t
             → IfOk result (λ o. IfSome o (λ n. TellsAt self.new place n (task_came t (scene_of L.looks self.old)))) }
         ensures follows { Follows L.looks self.old self.new }
     {
@@ -101,7 +101,7 @@ impl<L: LookUps> Signing<'_, L> {
     }
 
     // The number of the outcome of the test at a place, which is evaluated for it.
-    fn learnt(&mut self, place: usize, task: &Task) -> Result<usize, AllocError>
+    fn learnt(&mut self, place: usize, task: &TestTask) -> Result<usize, AllocError>
         requires typed { TaskTyped task.now }
         requires test { HasTest L.looks self.old place task.now }
         ensures comes { IfOk result (λ n.
@@ -113,7 +113,7 @@ impl<L: LookUps> Signing<'_, L> {
     }
 
     // Learns an outcome of the test at a place, and gives its number.
-    fn learn(&mut self, place: usize, outcome: Outcome) -> Result<usize, AllocError>
+    fn learn(&mut self, place: usize, outcome: TestOutcome) -> Result<usize, AllocError>
         requires came { CameThere L.looks self.old place outcome }
         requires within { AreNumbers self.old.questions outcome.asked }
         ensures comes { IfOk result (λ n. TellsAt self.new place n (came_of self.old.questions outcome)) }
@@ -131,7 +131,7 @@ impl<L: LookUps> Signing<'_, L> {
     }
 
     // The outcome of a test.
-    fn outcome(&mut self, task: &Task) -> Result<Outcome, AllocError>
+    fn outcome(&mut self, task: &TestTask) -> Result<TestOutcome, AllocError>
         requires typed { TaskTyped task.now }
         requires signing { IsSigning L.looks self.old }
         ensures comes { IfOk result (λ o.
@@ -163,7 +163,7 @@ impl<L: LookUps> Signing<'_, L> {
     }
 
     // The outcome of a test that is evaluated alone.
-    fn evaluated(&mut self, task: &Task, request: &Request) -> Result<Outcome, AllocError>
+    fn evaluated(&mut self, task: &TestTask, request: &Request) -> Result<TestOutcome, AllocError>
         requires typed { TaskTyped task.now }
         requires request { request.now ≡ request_of self.old }
         ensures comes { IfOk result (λ o.
@@ -178,7 +178,7 @@ impl<L: LookUps> Signing<'_, L> {
         let failed = notes.has_failed();
         let asked = notes.numbers_among(self.alloc, &mut self.questions)?;
         self.tests.notebook.close(notes);
-        Ok(Outcome {
+        Ok(TestOutcome {
             tested,
             asked,
             failed,
@@ -187,14 +187,14 @@ impl<L: LookUps> Signing<'_, L> {
 
     // The step by an outcome that came of the test at a place. Beyond 2^32 outcomes it is refused, as for want of
     // memory.
-    fn step_at(&self, place: usize, number: usize, task: &Task) -> Result<Step, AllocError>
+    fn step_at(&self, place: usize, number: usize, task: &TestTask) -> Result<WayStep, AllocError>
         requires { (c : Came) × TellsAt self.now place number c }
         ensures { (c : Came) → TellsAt self.now place number c
             → IfOk result (signed.Tells (TellsAt self.now) place task.now c) }
     {
         match u32::try_from(number) {
             Err(_) => Err(AllocError),
-            Ok(short) => Ok(Step {
+            Ok(short) => Ok(WayStep {
                 number: short,
                 goes_on: goes_on(task, &self.tests.list[place].outcomes[number].tested),
             }),
@@ -205,14 +205,14 @@ impl<L: LookUps> Signing<'_, L> {
 /// Whether what stands below a test counts, by what it came to.
 ///
 /// Its contract is an equation.
-pub fn goes_on(task: &Task, tested: &Tested) -> bool
+pub fn goes_on(task: &TestTask, tested: &Tested) -> bool
     ensures { (g : Gist) → result ≡ task_goes_on task.now (came_by tested.now g) }
 {
     match task {
-        Task::Target(_) => below_target(tested),
-        Task::RuleTarget(_) => below_rule(tested),
-        Task::Condition(_, _) => below_condition(tested),
-        Task::Decision(_, _) => true,
+        TestTask::Target(_) => below_target(tested),
+        TestTask::RuleTarget(_) => below_rule(tested),
+        TestTask::Condition(_, _) => below_condition(tested),
+        TestTask::Decision(_, _) => true,
     }
 }
 

@@ -13,26 +13,26 @@ use ent_request::LookUps;
 use ent_trace::Notebook;
 use memo_bags::{Findings, Scene};
 use memo_plan::Entry;
-use memo_tests::{Outcome, Test};
+use memo_tests::{Test, TestOutcome};
 use std::alloc::{AllocError, Global};
 
 /// What is known of the tests of entries, each at the place of its entry.
 #[derive(Drop)]
-pub struct Tests {
+pub struct EntryTests {
     pub list: Vec<Test>,
     pub notebook: Notebook,
     /// How many places their trees have, and how many outcomes they have, in all.
     pub places: usize,
 }
 
-impl Tests {
+impl EntryTests {
     /// Of no entries. Nothing is allocated.
     ///
     /// Its contract leaves open: what it counts of places and outcomes.
-    pub fn new(alloc: Global) -> Tests
+    pub fn new(alloc: Global) -> EntryTests
         ensures { result.list.items ≡ [] }
     {
-        Tests {
+        EntryTests {
             list: Vec::new(alloc),
             notebook: Notebook::new(alloc),
             places: 0,
@@ -47,11 +47,11 @@ impl Tests {
     ///
     /// Its contract leaves open: how much of each test is there beside that nothing is known of it; what is counted of
     /// places and outcomes.
-    pub fn of(alloc: Global, entries: &[Entry]) -> Result<Tests, AllocError>
+    pub fn of(alloc: Global, entries: &[Entry]) -> Result<EntryTests, AllocError>
         ensures { (at : Looks) (questions : List Question) (bags : List Contents)
             → IfOk result (λ x. AreTestsOf at questions bags entries.now x.list.items) }
     {
-        let mut tests = Tests::new(alloc);
+        let mut tests = EntryTests::new(alloc);
         for _ in entries {
             tests.list.push(Test::new(alloc))?;
         }
@@ -64,7 +64,7 @@ impl Tests {
         place: usize,
         scene: &Scene<'_, L>,
         findings: &mut Findings,
-        outcome: Outcome,
+        outcome: TestOutcome,
     ) -> Result<usize, AllocError>
         requires there { place < length self.old.list.items }
         requires ready { AreReady (L.looks scene.now.held.now) scene.now findings.old }

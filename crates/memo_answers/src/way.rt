@@ -10,7 +10,7 @@ ghost use Rattle.memo_answers.specs.Known.{AreKnown, TellsIn};
 ghost use Rattle.memo_answers.specs.Told.{Signs, comes_of};
 
 use crate::signing::Signing;
-use crate::tests::Tests;
+use crate::tests::EntryTests;
 use ent_request::{LookUps, Questions};
 use ent_values::Text;
 use memo_bags::Findings;
@@ -33,7 +33,7 @@ pub fn way_of<L: LookUps>(
     entries: &[Entry],
     questions: &mut Questions,
     findings: &mut Findings,
-    tests: &mut Tests,
+    tests: &mut EntryTests,
     person: &Text,
     action: &Text,
     resource: &Text,
@@ -64,7 +64,7 @@ pub fn way_of<L: LookUps>(
         request: None,
         questions: mem::replace(questions, Questions::new(alloc)),
         findings: mem::replace(findings, Findings::new(alloc)),
-        tests: mem::replace(tests, Tests::new(alloc)),
+        tests: mem::replace(tests, EntryTests::new(alloc)),
     };
     let signed = signing.sign(way);
     *questions = signing.questions;

@@ -7,7 +7,7 @@ use Rattle.memo_bags.specs.declared.finding.Finding.{Finding}
 use Rattle.memo_bags.specs.declared.findings.Findings.{Findings}
 use Rattle.ent_request.specs.declared.question.Question.{Question}
 use Rattle.ent_request.specs.declared.question.Question.TheVariants.{Root}
-use Rattle.ent_request.specs.declared.readers.Place.{Place}
+use Rattle.ent_request.specs.declared.readers.NamePlace.{NamePlace}
 use Rattle.ent_request.specs.declared.request.Request.{Request}
 use Rattle.memo_bags.specs.declared.scene.Scene.{Scene}
 use Rattle.ent_walk.specs.Law.{FindsSame}
@@ -84,7 +84,7 @@ module _ {L : Type 0} (looks : Looks) (scene : Scene L) (old : Findings) (number
             (none_alike looks t time scene.person.now scene.action.now scene.resource.now person action resource this (none this is_there));
       }
 
-  pub found_put : (mid new : Findings) (found more : List Finding) (place : Place) (k : ℕ) → IsAbout questions n place → FindsBag looks questions new.bags request n k
+  pub found_put : (mid new : Findings) (found more : List Finding) (place : NamePlace) (k : ℕ) → IsAbout questions n place → FindsBag looks questions new.bags request n k
       → KeepsReady looks scene mid new → more ≡ found ++ record { question = n; place = place; bag = k } ∷ []
       → IsFound looks scene old mid numbers i found → IsFound looks scene old new numbers (i + 1) more
   found_put mid new found more place k about bag keeps pushed so_far =

@@ -4,12 +4,12 @@ use Rattle.std.specs.List.{AllByRecursion}
 use Rattle.std.proofs.lemmas.Option.{get_or_from_slice_get, slice_get-get_or, slice_get_within}
 use Rattle.ent_values.specs.Bags.{Contents}
 use Rattle.memo_bags.specs.declared.finding.Finding.{Finding}
-use Rattle.memo_bags.specs.declared.names.Names.{Names}
-use Rattle.memo_bags.specs.declared.names.Row.{Row}
+use Rattle.memo_bags.specs.declared.names.NameRows.{NameRows}
+use Rattle.memo_bags.specs.declared.names.NameRow.{NameRow}
 use Rattle.ent_request.specs.declared.question.Asked.{Asked}
 use Rattle.ent_request.specs.declared.question.Question.{Question}
 use Rattle.ent_request.specs.declared.question.Question.TheVariants.{Root, Of}
-use Rattle.ent_request.specs.declared.readers.Place.{Place}
+use Rattle.ent_request.specs.declared.readers.NamePlace.{NamePlace}
 use Rattle.ent_request.specs.declared.request.Request.{Request}
 use Rattle.ent_request.specs.Looks.{Looks}
 use Rattle.memo_bags.specs.Found.{FindsBag, FindsIn, IsAbout, bag_for, bag_in, place_of}
@@ -51,12 +51,12 @@ module _ (looks : Looks) (questions more : List Question) (bags bigger : List Co
   all_back request [] are all = tt
   all_back request (f ∷ found) are all = (finds_back request f are.0 all.0, all_back request found are.1 all.1)
 
-  pub row_more : (place : Place) (row : Row) → IsRow looks questions bags place row → IsRow looks more bigger place row
+  pub row_more : (place : NamePlace) (row : NameRow) → IsRow looks questions bags place row → IsRow looks more bigger place row
   row_more place row is n k known =
       let f = is n k known in
       (f.0, (starts_get questions more n (Of f.0) first f.1.0, (f.1.1.0, starts_get bags bigger k (bag_in looks f.0 row.name) second f.1.1.1)))
 
-  pub rows_more : (place : Place) (names : Names) → AreRows looks questions bags place names → AreRows looks more bigger place names
+  pub rows_more : (place : NamePlace) (names : NameRows) → AreRows looks questions bags place names → AreRows looks more bigger place names
   rows_more place names all = all_map (IsRow looks questions bags place) (IsRow looks more bigger place) (row_more place) names.rows.items all
 
   pub numbers_more : (numbers : List ℕ) → AreNumbers questions numbers → AreNumbers more numbers × (at_numbers more numbers ≡ at_numbers questions numbers)
@@ -68,7 +68,7 @@ module _ (looks : Looks) (questions more : List Question) (bags bigger : List Co
         ap (λ x. x ∷ at_numbers more numbers) (get_or_from_slice_get more n (get_or questions n Root) Root there) ∙ ap (λ xs. get_or questions n Root ∷ xs) rest.1,
       )
 
-  pub about_more : (n : ℕ) (place : Place) → IsAbout questions n place → IsAbout more n place
+  pub about_more : (n : ℕ) (place : NamePlace) → IsAbout questions n place → IsAbout more n place
   about_more n place is = (is.0, (starts_get questions more n is.0 first is.1.0, is.1.1))
 
   turn_more : (t : Turn About) → IsTurn questions bags t → IsTurn more bigger t
@@ -86,7 +86,7 @@ module _ (looks : Looks) (questions more : List Question) (bags bigger : List Co
 -- ---- rows
 
 -- rows of which nothing is known are as they should be
-pub added_rows : (looks : Looks) (questions : List Question) (bags : List Contents) (place : Place) (old new : List Row) → AddsRows old new
+pub added_rows : (looks : Looks) (questions : List Question) (bags : List Contents) (place : NamePlace) (old new : List NameRow) → AddsRows old new
     → AllByRecursion (IsRow looks questions bags place) old → AllByRecursion (IsRow looks questions bags place) new
 added_rows looks questions bags place old new adds all =
     subst (AllByRecursion (IsRow looks questions bags place)) (sym adds.1.0)
@@ -95,33 +95,33 @@ added_rows looks questions bags place old new adds all =
       nothing [] n k is at = absurd (cc)
       nothing (x ∷ xs) n k is at = absurd (cc)
 
-      fresh : (row : Row) → row.found.items ≡ [] → IsRow looks questions bags place row
+      fresh : (row : NameRow) → row.found.items ≡ [] → IsRow looks questions bags place row
       fresh row is n k known = absurd (nothing row.found.items n k is known)
 
 -- what is known of the latest name is found for it
-pub known_for : (looks : Looks) (questions : List Question) (bags : List Contents) (place : Place) (names : Names) (name : List ℕ) (n k : ℕ)
+pub known_for : (looks : Looks) (questions : List Question) (bags : List Contents) (place : NamePlace) (names : NameRows) (name : List ℕ) (n k : ℕ)
     → AreRows looks questions bags place names → IsAt names name → KnowsLatest names n k → FindsForName looks questions bags place name n k
 known_for looks questions bags place names name n k all at knows =
     let row : knows.0 ≡ at.0 = some_same knows.0 at.0 (sym knows.1.0 ∙ at.1.0) in
-    let named : name ≡ knows.0.name = sym at.1.1 ∙ ap (λ (r : Row). r.name) (sym row) in
+    let named : name ≡ knows.0.name = sym at.1.1 ∙ ap (λ (r : NameRow). r.name) (sym row) in
     let f : FindsIn looks questions bags place knows.0.name n k =
     all_at (IsRow looks questions bags place) names.rows.items names.latest knows.0 all knows.1.0 n k knows.1.1 in
     found_for looks questions bags place name n k f.0 f.1.0 f.1.1.0 (f.1.1.1 ∙ ap (λ x. Some (bag_in looks f.0 x)) (sym named))
 
 -- a row that learns what is found for its name is as it should be
-pub learnt_rows : (looks : Looks) (questions : List Question) (bags : List Contents) (place : Place) (old new : Names) (name : List ℕ) (n k : ℕ)
+pub learnt_rows : (looks : Looks) (questions : List Question) (bags : List Contents) (place : NamePlace) (old new : NameRows) (name : List ℕ) (n k : ℕ)
     → FindsIn looks questions bags place name n k → IsAt old name → LearnsLatest old new n k
     → AreRows looks questions bags place old → AreRows looks questions bags place new
 learnt_rows looks questions bags place old new name n k finds at learns all =
     subst (AllByRecursion (IsRow looks questions bags place)) (sym learns.1.1.1.1.0)
     (all_set (IsRow looks questions bags place) old.rows.items old.latest learns.1.0 next all) where
-      next : (row : Row) → slice_get old.rows.items old.latest ≡ Some row → IsRow looks questions bags place row
+      next : (row : NameRow) → slice_get old.rows.items old.latest ≡ Some row → IsRow looks questions bags place row
           → IsRow looks questions bags place learns.1.0
       next row there is m j knows =
           let this : learns.0 ≡ row = some_same learns.0 row (sym learns.1.1.1.0 ∙ there) in
           let at_row : at.0 ≡ row = some_same at.0 row (sym at.1.0 ∙ there) in
-          let named : learns.1.0.name ≡ row.name = learns.1.1.1.1.1.0 ∙ ap (λ (r : Row). r.name) this in
-          let its : learns.1.0.name ≡ name = named ∙ ap (λ (r : Row). r.name) (sym at_row) ∙ at.1.1 in
+          let named : learns.1.0.name ≡ row.name = learns.1.1.1.1.1.0 ∙ ap (λ (r : NameRow). r.name) this in
+          let its : learns.1.0.name ≡ name = named ∙ ap (λ (r : NameRow). r.name) (sym at_row) ∙ at.1.1 in
           elim (learns.1.1.1.1.1.1 m j knows) [
             | inl before ↦ subst (λ x. FindsIn looks questions bags place x m j) (sym named)
                 (is m j (subst (λ r. Knows r m j) this before))
@@ -131,19 +131,19 @@ learnt_rows looks questions bags place old new name n k finds at learns all =
           ]
 
 -- and the names are still at it
-pub learnt_at : (old new : Names) (name : List ℕ) (n k : ℕ) → IsAt old name → LearnsLatest old new n k → IsAt new name
+pub learnt_at : (old new : NameRows) (name : List ℕ) (n k : ℕ) → IsAt old name → LearnsLatest old new n k → IsAt new name
 learnt_at old new name n k at learns =
     let row : at.0 ≡ learns.0 = some_same at.0 learns.0 (sym at.1.0 ∙ learns.1.1.1.0) in
     let below : old.latest < length old.rows.items = slice_get_within old.rows.items old.latest learns.0 learns.1.1.1.0 in (
       learns.1.0,
       (
         ap (slice_get new.rows.items) learns.1.1.0 ∙ ap (λ rows. slice_get rows old.latest) learns.1.1.1.1.0 ∙ get_set old.rows.items old.latest learns.1.0 below,
-        learns.1.1.1.1.1.0 ∙ ap (λ (r : Row). r.name) (sym row) ∙ at.1.1,
+        learns.1.1.1.1.1.0 ∙ ap (λ (r : NameRow). r.name) (sym row) ∙ at.1.1,
       ),
     )
 
 -- what was looked up for a name is found for it
-found_in : (looks : Looks) (questions : List Question) (bags : List Contents) (place : Place) (name : List ℕ) (n k : ℕ) (a : Asked) (b : Contents)
+found_in : (looks : Looks) (questions : List Question) (bags : List Contents) (place : NamePlace) (name : List ℕ) (n k : ℕ) (a : Asked) (b : Contents)
     → slice_get questions n ≡ Some (Of a) → IsAbout questions n place → b ≡ bag_in looks a name → slice_get bags k ≡ Some b
     → FindsIn looks questions bags place name n k
 found_in looks questions bags place name n k a b at about is there =
@@ -151,7 +151,7 @@ found_in looks questions bags place name n k a b at about is there =
     (a, (at, (ap place_of (sym this) ∙ about.1.1, there ∙ ap Some is)))
 
 -- whoever else is named
-pub found_now : (looks : Looks) (questions : List Question) (bags : List Contents) (place : Place) (name : List ℕ) (n k : ℕ) (a : Asked) (b : Contents)
+pub found_now : (looks : Looks) (questions : List Question) (bags : List Contents) (place : NamePlace) (name : List ℕ) (n k : ℕ) (a : Asked) (b : Contents)
     → slice_get questions n ≡ Some (Of a) → IsAbout questions n place → b ≡ bag_in looks a name → slice_get bags k ≡ Some b
     → FindsForName looks questions bags place name n k
 found_now looks questions bags place name n k a b at about is there =
@@ -159,7 +159,7 @@ found_now looks questions bags place name n k a b at about is there =
     found_for looks questions bags place name n k f.0 f.1.0 f.1.1.0 f.1.1.1
 
 -- and its row learns it
-pub learnt_now : (looks : Looks) (questions : List Question) (bags bigger : List Contents) (place : Place) (old new : Names) (name : List ℕ) (n k : ℕ) (a : Asked) (b : Contents)
+pub learnt_now : (looks : Looks) (questions : List Question) (bags bigger : List Contents) (place : NamePlace) (old new : NameRows) (name : List ℕ) (n k : ℕ) (a : Asked) (b : Contents)
     → slice_get questions n ≡ Some (Of a) → IsAbout questions n place → b ≡ bag_in looks a name → slice_get bigger k ≡ Some b
     → Begins bigger bags → IsAt old name → LearnsLatest old new n k → AreRows looks questions bags place old → AreRows looks questions bigger place new
 learnt_now looks questions bags bigger place old new name n k a b at about is there begins stands learns all =

@@ -10,8 +10,8 @@ use Rattle.ent_values.specs.declared.value.Value.TheVariants as value
 use Rattle.ent_request.specs.declared.question.Asked.{Asked}
 use Rattle.ent_request.specs.declared.question.Question.{Question}
 use Rattle.ent_request.specs.declared.question.Question.TheVariants.{Root, Ref, Of}
-use Rattle.ent_request.specs.declared.readers.Place.{Place}
-use Rattle.ent_request.specs.declared.readers.Place.TheVariants.{Person, Action, Resource}
+use Rattle.ent_request.specs.declared.readers.NamePlace.{NamePlace}
+use Rattle.ent_request.specs.declared.readers.NamePlace.TheVariants.{Person, Action, Resource}
 use Rattle.ent_request.specs.declared.request.Request.{Request}
 use Rattle.ent_walk.specs.Law.{FindsSame}
 use Rattle.ent_request.specs.Listed.{about, listed, named}
@@ -88,9 +88,9 @@ module _ (looks : Looks) (person action resource : List ℕ) where
         (ap (λ i. bytes_eq uris.resource_id a.attribute && (same_type types.Text a.datatype && is_none i)) e) refl
 
   -- what a question about the name at a place finds is told by that name
-  of_place : (a : Asked) (place : Place) → place_in a.category ≡ Some place → Tells a (name_at place person action resource)
+  of_place : (a : Asked) (place : NamePlace) → place_in a.category ≡ Some place → Tells a (name_at place person action resource)
   of_place a place is = at (bytes_eq a.category uris.access_subject) (bytes_eq a.category uris.resource) (bytes_eq a.category uris.action) refl refl refl where
-    here : (category : List ℕ) (p : Place) → a.category ≡ category → place_in a.category ≡ Some p → Tells (in_category a category) (name_at p person action resource) → Tells a (name_at place person action resource)
+    here : (category : List ℕ) (p : NamePlace) → a.category ≡ category → place_in a.category ≡ Some p → Tells (in_category a category) (name_at p person action resource) → Tells a (name_at place person action resource)
     here category p same its there =
         subst (λ c. Tells (in_category a c) (name_at place person action resource)) (sym same)
         (subst (λ x. Tells (in_category a category) (name_at x person action resource)) (some_same p place (sym its ∙ is)) there)
@@ -123,7 +123,7 @@ module _ (looks : Looks) (person action resource : List ℕ) where
 
   of_none : (a : Asked) → place_in a.category ≡ None → values_of looks request a ≡ elsewhere a
   of_none a is = at (bytes_eq a.category uris.access_subject) (bytes_eq a.category uris.resource) (bytes_eq a.category uris.action) refl refl refl where
-    somewhere : {p : Place} → Some p ≡ None → ⊥
+    somewhere : {p : NamePlace} → Some p ≡ None → ⊥
     somewhere e = absurd (cc)
 
     at : (x y z : Bool) → bytes_eq a.category uris.access_subject ≡ x → bytes_eq a.category uris.resource ≡ y → bytes_eq a.category uris.action ≡ z → values_of looks request a ≡ elsewhere a
@@ -147,7 +147,7 @@ module _ (looks : Looks) (person action resource : List ℕ) where
         else entity_values looks d o))) entity
 
 -- what is found for a name is found for each listed request with it
-pub found_for : (looks : Looks) (questions : List Question) (bags : List Contents) (place : Place) (name : List ℕ) (n k : ℕ) (a : Asked) → slice_get questions n ≡ Some (Of a) → place_in a.category ≡ Some place
+pub found_for : (looks : Looks) (questions : List Question) (bags : List Contents) (place : NamePlace) (name : List ℕ) (n k : ℕ) (a : Asked) → slice_get questions n ≡ Some (Of a) → place_in a.category ≡ Some place
     → slice_get bags k ≡ Some (bag_in looks a name) → FindsForName looks questions bags place name n k
 found_for looks questions bags place name n k a at is there person action resource same =
     let values : values_of looks (listed person action resource) a ≡ (bag_in looks a name).values = of_place looks person action resource a place is ∙ ap (λ x. (bag_in looks a x).values) same in

@@ -6,11 +6,11 @@ use Rattle.ent_values.specs.Bags.{Contents}
 use Rattle.ent_values.specs.declared.value.Value.TheVariants as value
 use Rattle.ent_finder.specs.declared.row.AttrKey.{AttrKey}
 use Rattle.memo_bags.specs.declared.findings.Findings.{Findings}
-use Rattle.memo_bags.specs.declared.names.Row.{Row}
+use Rattle.memo_bags.specs.declared.names.NameRow.{NameRow}
 use Rattle.ent_request.specs.declared.question.Asked.{Asked}
 use Rattle.ent_request.specs.declared.question.Question.{Question}
-use Rattle.ent_request.specs.declared.readers.Place.{Place}
-use Rattle.ent_request.specs.declared.readers.Place.TheVariants.{Person, Action, Resource}
+use Rattle.ent_request.specs.declared.readers.NamePlace.{NamePlace}
+use Rattle.ent_request.specs.declared.readers.NamePlace.TheVariants.{Person, Action, Resource}
 use Rattle.ent_request.specs.Looks.{Looks}
 use Rattle.ent_request.specs.Readers.{is_own}
 use Rattle.ent_request.specs.Sources.{designator_for, key_for}
@@ -29,7 +29,7 @@ bag_still looks other a name same = λ i. record {
 }
 
 -- a row is as it should be where its name's keys name the same values
-row_still : (looks other : Looks) (questions : List Question) (bags : List Contents) (place : Place) (row : Row)
+row_still : (looks other : Looks) (questions : List Question) (bags : List Contents) (place : NamePlace) (row : NameRow)
     → ((key : AttrKey) → key.entity ≡ row.name → other.values key ≡ looks.values key)
     → IsRow looks questions bags place row → IsRow other questions bags place row
 row_still looks other questions bags place row same is n k known =
@@ -46,14 +46,14 @@ findings_still looks other same questions findings are = record {
   actions = still Action findings.actions.rows.items are.actions;
   resources = still Resource findings.resources.rows.items are.resources;
 } where
-  still : (place : Place) (rows : List Row) → AllByRecursion (IsRow looks questions findings.bags place) rows
+  still : (place : NamePlace) (rows : List NameRow) → AllByRecursion (IsRow looks questions findings.bags place) rows
       → AllByRecursion (IsRow other questions findings.bags place) rows
   still place rows all =
       all_map (IsRow looks questions findings.bags place) (IsRow other questions findings.bags place)
       (λ row. row_still looks other questions findings.bags place row (λ key named. same key)) rows all
 
 -- so are the rows of which those of one name forgot it, where the keys of others name the same values
-pub rows_forgotten : (looks other : Looks) (questions : List Question) (bags : List Contents) (place : Place) (name : List ℕ) (old new : List Row)
+pub rows_forgotten : (looks other : Looks) (questions : List Question) (bags : List Contents) (place : NamePlace) (name : List ℕ) (old new : List NameRow)
     → HaveSameOthers name looks other → ForgetsName name old new
     → AllByRecursion (IsRow looks questions bags place) old → AllByRecursion (IsRow other questions bags place) new
 rows_forgotten looks other questions bags place name old new same forgets all = all_by_place (IsRow other questions bags place) new each where
@@ -61,11 +61,11 @@ rows_forgotten looks other questions bags place name old new same forgets all = 
   nothing [] n k is at = absurd (cc)
   nothing (x ∷ xs) n k is at = absurd (cc)
 
-  by : (i : ℕ) (row : Row) → IsForgotten name old i row → IsRow other questions bags place row
+  by : (i : ℕ) (row : NameRow) → IsForgotten name old i row → IsRow other questions bags place row
   by i row (inl none) = λ n k known. absurd (nothing row.found.items n k none known)
   by i row (inr kept) =
       row_still looks other questions bags place row (λ key named. same key (λ is. kept.0 (sym named ∙ is)))
       (all_at (IsRow looks questions bags place) old i row all kept.1)
 
-  each : (i : ℕ) (row : Row) → slice_get new i ≡ Some row → IsRow other questions bags place row
+  each : (i : ℕ) (row : NameRow) → slice_get new i ≡ Some row → IsRow other questions bags place row
   each i row at = by i row (forgets i row at)

@@ -5,11 +5,11 @@ use Rattle.ent_values.specs.Bags.{Contents}
 use Rattle.ent_values.specs.Same.{same_bag}
 use Rattle.memo_bags.specs.declared.finding.Finding.{Finding}
 use Rattle.memo_bags.specs.declared.findings.Findings.{Findings}
-use Rattle.memo_bags.specs.declared.names.Names.{Names}
-use Rattle.memo_bags.specs.declared.names.Row.{Row}
+use Rattle.memo_bags.specs.declared.names.NameRows.{NameRows}
+use Rattle.memo_bags.specs.declared.names.NameRow.{NameRow}
 use Rattle.ent_request.specs.declared.question.Question.{Question}
-use Rattle.ent_request.specs.declared.readers.Place.{Place}
-use Rattle.ent_request.specs.declared.readers.Place.TheVariants.{Person, Action, Resource}
+use Rattle.ent_request.specs.declared.readers.NamePlace.{NamePlace}
+use Rattle.ent_request.specs.declared.readers.NamePlace.TheVariants.{Person, Action, Resource}
 use Rattle.ent_request.specs.Looks.{Looks}
 use Rattle.memo_bags.specs.Found.{FindsIn, place_of}
 
@@ -18,7 +18,7 @@ abbrev pub IsFinding : List Question → List Contents → Finding → Type 0
 IsFinding questions bags f = (f.bag < length bags) × ((x : Question) × ((slice_get questions f.question ≡ Some x) × (place_of x ≡ Some f.place)))
 
 -- what stands in a row is what questions about its place find for its name
-abbrev pub IsRow : Looks → List Question → List Contents → Place → Row → Type 0
+abbrev pub IsRow : Looks → List Question → List Contents → NamePlace → NameRow → Type 0
 IsRow looks questions bags place row = (question bag : ℕ) → slice_get row.found.items question ≡ Some (Some bag)
     → FindsIn looks questions bags place row.name question bag
 
@@ -30,9 +30,9 @@ pub record AreFindings (looks : Looks) (questions : List Question) (findings : F
   pub resources : AllByRecursion (IsRow looks questions findings.bags Resource) findings.resources.rows.items
 
 -- the row at a place is that of a name
-abbrev pub StandsAt : List Row → ℕ → List ℕ → Type 0
-StandsAt rows i name = (row : Row) × ((slice_get rows i ≡ Some row) × (row.name ≡ name))
+abbrev pub StandsAt : List NameRow → ℕ → List ℕ → Type 0
+StandsAt rows i name = (row : NameRow) × ((slice_get rows i ≡ Some row) × (row.name ≡ name))
 
 -- so is the latest row
-abbrev pub IsAt : Names → List ℕ → Type 0
+abbrev pub IsAt : NameRows → List ℕ → Type 0
 IsAt names name = StandsAt names.rows.items names.latest name

@@ -7,8 +7,8 @@ use Rattle.ent_finder.specs.declared.row.AttrKey.{AttrKey}
 use Rattle.ent_request.specs.declared.question.Asked.{Asked}
 use Rattle.ent_request.specs.declared.question.Question.{Question}
 use Rattle.ent_request.specs.declared.question.Question.TheVariants.{Of}
-use Rattle.ent_request.specs.declared.readers.Place.{Place}
-use Rattle.ent_request.specs.declared.readers.Place.TheVariants.{Person, Action, Resource}
+use Rattle.ent_request.specs.declared.readers.NamePlace.{NamePlace}
+use Rattle.ent_request.specs.declared.readers.NamePlace.TheVariants.{Person, Action, Resource}
 use Rattle.ent_request.specs.declared.request.Request.{Request}
 use Rattle.ent_request.specs.Looks.{Looks}
 use Rattle.ent_request.specs.Readers.{is_own}
@@ -16,14 +16,14 @@ use Rattle.ent_request.specs.Sources.{designator_for, key_for, values_of}
 use Rattle.ent_request.specs.Uris as uris
 
 -- the name of listed requests that a category is of, if it is of one
-abbrev pub place_in : List ℕ → Option Place
+abbrev pub place_in : List ℕ → Option NamePlace
 place_in category =
     if bytes_eq category uris.access_subject then Some Person
     else (if bytes_eq category uris.resource then Some Resource
     else (if bytes_eq category uris.action then Some Action else None))
 
 -- the name that a question is about, if it is about one
-abbrev pub place_of : Question → Option Place
+abbrev pub place_of : Question → Option NamePlace
 place_of (Of a) = place_in a.category
 place_of _ = None
 
@@ -44,11 +44,11 @@ abbrev pub FindsBag : Looks → List Question → List Contents → Request → 
 FindsBag looks questions bags request question bag = (x : Question) × ((slice_get questions question ≡ Some x) × (slice_get bags bag ≡ Some (bag_for looks request x)))
 
 -- the question of a number is about a place's name
-abbrev pub IsAbout : List Question → ℕ → Place → Type 0
+abbrev pub IsAbout : List Question → ℕ → NamePlace → Type 0
 IsAbout questions question place = (x : Question) × ((slice_get questions question ≡ Some x) × (place_of x ≡ Some place))
 
 -- the question of a number is about a place's name, and finds for that name the bag of that number
-abbrev pub FindsIn : Looks → List Question → List Contents → Place → List ℕ → ℕ → ℕ → Type 0
+abbrev pub FindsIn : Looks → List Question → List Contents → NamePlace → List ℕ → ℕ → ℕ → Type 0
 FindsIn looks questions bags place name question bag = (a : Asked) × ((slice_get questions question ≡ Some (Of a))
     × ((place_in a.category ≡ Some place) × (slice_get bags bag ≡ Some (bag_in looks a name))))
 

@@ -15,11 +15,11 @@ use std::marker::Model;
 
 /// A bag that was found.
 #[derive(PartialEq, Eq, Drop)]
-struct Found {
+struct FoundBag {
     bag: Bag,
 }
 
-impl Hash for Found {
+impl Hash for FoundBag {
     ghost hash_input = { λ f. bag_writes f.bag };
 
     ghost respects_eq = { (on_Alike (λ f. f.bag) (same_Alike bag_writes same_bag-Decides)).fed };
@@ -32,7 +32,7 @@ impl Hash for Found {
 /// The bags that have a number, each once, in the order of their numbers.
 #[derive(Drop)]
 pub struct Bags {
-    bags: IndexSet<Found>,
+    bags: IndexSet<FoundBag>,
     values: usize,
 }
 
@@ -75,7 +75,7 @@ impl Bags {
             return Err(AllocError);
         }
         let more = bag.values().len();
-        let (number, is_new) = self.bags.insert_full(Found { bag })?;
+        let (number, is_new) = self.bags.insert_full(FoundBag { bag })?;
         self.values = grown(self.values, more, is_new);
         Ok(number as u32)
     }

@@ -12,10 +12,12 @@ ghost use Rattle.memo_bags.specs.proofs_only.Ready.{IsAt, KeepsReady, in_scene, 
 ghost use Rattle.ent_request.specs.declared.question.Question.{Question};
 
 use crate::bags::Bags;
-use crate::names::Names;
+use crate::names::NameRows;
 use crate::scene::Scene;
 use ent_request::readers::is_own;
-use ent_request::{ACCESS_SUBJECT, ACTION, Asked, LookUps, Place, Question, Questions, RESOURCE};
+use ent_request::{
+    ACCESS_SUBJECT, ACTION, Asked, LookUps, NamePlace, Question, Questions, RESOURCE,
+};
 use ent_values::{Bag, Text, Value};
 use std::alloc::{AllocError, Global};
 
@@ -23,9 +25,9 @@ use std::alloc::{AllocError, Global};
 #[derive(Drop)]
 pub struct Findings {
     pub bags: Bags,
-    pub people: Names,
-    pub actions: Names,
-    pub resources: Names,
+    pub people: NameRows,
+    pub actions: NameRows,
+    pub resources: NameRows,
 }
 
 impl Findings {
@@ -37,9 +39,9 @@ impl Findings {
     {
         Findings {
             bags: Bags::new(alloc),
-            people: Names::new(alloc),
-            actions: Names::new(alloc),
-            resources: Names::new(alloc),
+            people: NameRows::new(alloc),
+            actions: NameRows::new(alloc),
+            resources: NameRows::new(alloc),
         }
     }
 
@@ -77,9 +79,9 @@ impl Findings {
             → AreFindings looks questions self.old → AreFindings other questions self.new }
         ensures bags { self.new.bags ≡ self.old.bags }
     {
-        self.people = Names::new(alloc);
-        self.actions = Names::new(alloc);
-        self.resources = Names::new(alloc);
+        self.people = NameRows::new(alloc);
+        self.actions = NameRows::new(alloc);
+        self.resources = NameRows::new(alloc);
     }
 
     /// Turns to the rows of a scene's names.
@@ -104,7 +106,7 @@ impl Findings {
         &mut self,
         scene: &Scene<'_, L>,
         question: u32,
-        place: Place,
+        place: NamePlace,
     ) -> Result<u32, AllocError>
         requires ready { AreReady (L.looks scene.now.held.now) scene.now self.old }
         requires about { IsAbout scene.now.questions.now question place }
@@ -114,8 +116,8 @@ impl Findings {
     {
         let bags = &mut self.bags;
         match place {
-            Place::Person => find(scene, bags, &mut self.people, scene.person, question, place),
-            Place::Action => find(
+            NamePlace::Person => find(scene, bags, &mut self.people, scene.person, question, place),
+            NamePlace::Action => find(
                 scene,
                 bags,
                 &mut self.actions,
@@ -123,7 +125,7 @@ impl Findings {
                 question,
                 place,
             ),
-            Place::Resource => find(
+            NamePlace::Resource => find(
                 scene,
                 bags,
                 &mut self.resources,
@@ -139,10 +141,10 @@ impl Findings {
 fn find<L: LookUps>(
     scene: &Scene<'_, L>,
     bags: &mut Bags,
-    names: &mut Names,
+    names: &mut NameRows,
     name: &Text,
     question: u32,
-    place: Place,
+    place: NamePlace,
 ) -> Result<u32, AllocError>
     requires rows { in_scene L.looks scene.now AreRows bags.old place names.old }
     requires at { IsAt names.old name.now }
@@ -182,7 +184,7 @@ fn look_up<L: LookUps>(scene: &Scene<'_, L>, asked: &Asked, name: &Text) -> Resu
 }
 
 // The name of listed requests that the question of a number is about, if it is about one.
-pub(crate) fn place_of(questions: &Questions, number: u32) -> Option<Place>
+pub(crate) fn place_of(questions: &Questions, number: u32) -> Option<NamePlace>
     ensures some { IfSome result (IsAbout questions.now number) }
     ensures none { IfNone result ((x : Question) → slice_get questions.now number ≡ Some x → places.place_of x ≡ None) }
 {
@@ -193,15 +195,15 @@ pub(crate) fn place_of(questions: &Questions, number: u32) -> Option<Place>
 }
 
 // The name that a category is of.
-fn place_in(category: &str) -> Option<Place>
+fn place_in(category: &str) -> Option<NamePlace>
     ensures { result ≡ places.place_in category.now }
 {
     if category == ACCESS_SUBJECT {
-        Some(Place::Person)
+        Some(NamePlace::Person)
     } else if category == RESOURCE {
-        Some(Place::Resource)
+        Some(NamePlace::Resource)
     } else if category == ACTION {
-        Some(Place::Action)
+        Some(NamePlace::Action)
     } else {
         None
     }

@@ -12,7 +12,7 @@ mod ways;
 pub use bags::Bags;
 pub use finding::{About, Finding};
 pub use findings::Findings;
-pub use names::{Names, Row};
+pub use names::{NameRow, NameRows};
 pub use noting::findings_of;
 pub use scene::Scene;
 pub use ways::{make_way, seek};

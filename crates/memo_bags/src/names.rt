@@ -1,4 +1,4 @@
-//! Names of listed requests, with what questions found for them.
+//! NameRows of listed requests, with what questions found for them.
 
 ghost use Rattle.std.specs.Prelude.{◌≡◌, ◌↔◌, ◌<◌, ℕ, [], IfNone, IfSome, IsTrue, OnOk, Some, length, slice_get};
 ghost use Rattle.std.specs.Bool.{OnFalse};
@@ -6,7 +6,7 @@ ghost use Rattle.std.specs.BTreeMap.{get};
 ghost use Rattle.std.specs.Cmp.Lexicographic.{slice_cmp};
 ghost use Rattle.std.specs.Ordering.{nat_cmp};
 ghost use Rattle.std.proofs.Props.{props};
-ghost use Rattle.memo_bags.specs.declared.names.Row.{Row};
+ghost use Rattle.memo_bags.specs.declared.names.NameRow.{NameRow};
 
 use ent_values::Text;
 use std::alloc::{AllocError, Global};
@@ -14,12 +14,12 @@ use std::collections::BTreeMap;
 
 /// A name, and for each question by its number the number of the bag that it found for the name, if it is known.
 #[derive(Drop)]
-pub struct Row {
+pub struct NameRow {
     pub name: Text,
     pub found: Vec<Option<u32>>,
 }
 
-impl Row {
+impl NameRow {
     ghost use Rattle.memo_bags.specs.proofs_only.Ready.{LearnsAtMost};
 
     // Notes the number of the bag that a question found.
@@ -43,26 +43,26 @@ impl Row {
     }
 }
 
-/// The names at one place, in the order in which they were met. Names mostly come in the same order again, so that
+/// The names at one place, in the order in which they were met. NameRows mostly come in the same order again, so that
 /// the row of one is likely the latest, or the one behind it; else a map tells it.
 #[derive(Drop)]
-pub struct Names {
-    pub rows: Vec<Row>,
+pub struct NameRows {
+    pub rows: Vec<NameRow>,
     pub places: BTreeMap<Text, usize>,
     pub latest: usize,
-    ghost placed: { (i : ℕ) (row : Row) → slice_get rows.items i ≡ Some row
+    ghost placed: { (i : ℕ) (row : NameRow) → slice_get rows.items i ≡ Some row
         → get (slice_cmp nat_cmp) places row.name ≡ Some i } by { Prim.hlevel props },
 }
 
-impl Names {
+impl NameRows {
     ghost use Rattle.memo_bags.specs.proofs_only.Ready.{AddsRows, ForgetsName, HasNone, IsAt, KnowsLatest};
     ghost use Rattle.memo_bags.specs.proofs_only.Ready.{LearnsLatest, StandsAt};
 
     // No names, for which nothing is allocated.
-    pub(crate) fn new(alloc: Global) -> Names
+    pub(crate) fn new(alloc: Global) -> NameRows
         ensures { result.rows.items ≡ [] }
     {
-        Names {
+        NameRows {
             rows: Vec::new(alloc),
             places: BTreeMap::new(alloc),
             latest: 0,
@@ -134,7 +134,7 @@ impl Names {
     {
         let place = self.rows.len();
         self.places.insert(name.copy(alloc)?, place)?;
-        self.rows.push(Row {
+        self.rows.push(NameRow {
             name: name.copy(alloc)?,
             found: Vec::new(alloc),
         })?;

@@ -14,7 +14,7 @@ use crate::finding::{About, Finding};
 use crate::findings::Findings;
 use crate::scene::Scene;
 use ent_request::LookUps;
-use memo_trie::{Fork, Node, Tree};
+use memo_trie::{Fork, Node, Trie};
 use std::alloc::{AllocError, Global};
 
 /// What stands at a place where a way is to go on.
@@ -36,7 +36,7 @@ enum Standing {
 pub fn seek<L: LookUps>(
     scene: &Scene<'_, L>,
     findings: &mut Findings,
-    tree: &Tree<About, usize>,
+    tree: &Trie<About, usize>,
 ) -> Result<Option<usize>, AllocError>
     requires ready { AreReady (L.looks scene.now.held.now) scene.now findings.old }
     requires asks { AsksAbout scene.now.questions.now tree.now.nodes.items }
@@ -55,7 +55,7 @@ pub fn seek<L: LookUps>(
 }
 
 // The question at a place, if one stands there.
-fn question(tree: &Tree<About, usize>, place: usize) -> Option<&Fork<About>>
+fn question(tree: &Trie<About, usize>, place: usize) -> Option<&Fork<About>>
     ensures some { IfSome result (λ f. slice_get tree.now.nodes.items place ≡ Some (Ask f.now)) }
     ensures none { IfNone result ((k : About) → key_at tree.now.nodes.items place ≡ Some k → ⊥) }
 {
@@ -83,7 +83,7 @@ fn next<L: LookUps>(
 }
 
 // What stands at the end of a way, if a way ends at a place.
-fn leaf(tree: &Tree<About, usize>, place: usize) -> Option<usize>
+fn leaf(tree: &Trie<About, usize>, place: usize) -> Option<usize>
     ensures { result ≡ leaf_at tree.now.nodes.items place }
 {
     match tree.get(place) {
@@ -99,7 +99,7 @@ fn leaf(tree: &Tree<About, usize>, place: usize) -> Option<usize>
 /// on the way.
 pub fn make_way(
     alloc: Global,
-    tree: &mut Tree<About, usize>,
+    tree: &mut Trie<About, usize>,
     found: &[Finding],
 ) -> Result<Option<usize>, AllocError>
     ensures made { IfOk result (λ o. IfSome o (IsMade tree.new.nodes.items found.now)) }
@@ -121,7 +121,7 @@ pub fn make_way(
 // Goes one turn further on a way, which is made if it isn't there, unless something else stands at the place.
 fn turn(
     alloc: Global,
-    tree: &mut Tree<About, usize>,
+    tree: &mut Trie<About, usize>,
     place: usize,
     finding: Finding,
 ) -> Result<Option<usize>, AllocError>
@@ -140,7 +140,7 @@ fn turn(
 }
 
 // What stands at a place where a way is to go on by what was found.
-fn at_place(tree: &Tree<About, usize>, place: usize, finding: Finding) -> Standing
+fn at_place(tree: &Trie<About, usize>, place: usize, finding: Finding) -> Standing
     ensures { Stands tree.now.nodes.items place finding result }
 {
     match tree.get(place) {
@@ -171,7 +171,7 @@ fn is_same(about: About, finding: Finding) -> bool
 }
 
 // A place, if nothing stands there yet.
-fn free(tree: &Tree<About, usize>, place: usize) -> Option<usize>
+fn free(tree: &Trie<About, usize>, place: usize) -> Option<usize>
     ensures some { IfSome result (λ p. (p ≡ place) × (slice_get tree.now.nodes.items place ≡ Some Nothing)) }
     ensures there { slice_get tree.now.nodes.items place ≡ Some Nothing → IsSome result }
 {

@@ -19,8 +19,8 @@ use Rattle.memo_heard.specs.declared.tested.Tested.{Tested}
 use Rattle.memo_plan.proofs.AtEnd.{failed_is, told_questions}
 use Rattle.memo_plan.specs.Alone.{task_part}
 use Rattle.memo_plan.specs.Plan.{task_came}
-use Rattle.memo_plan.specs.declared.task.Task.{Task}
-use Rattle.memo_plan.specs.declared.task.Task.TheVariants as task
+use Rattle.memo_plan.specs.declared.task.TestTask.{TestTask}
+use Rattle.memo_plan.specs.declared.task.TestTask.TheVariants as task
 
 -- where nothing was noted before, what came of a part came of an equal one
 pub comes_then : {L E A : Type 0} (meaning : A → Answer) (r : Result A E) (p q : Part Answer) (before between after : Walk L) → Adds [] before between → p ≡ q
@@ -33,14 +33,14 @@ comes_then meaning (Ok a) p q before between after added same came = record {
 comes_then meaning (Err e) p q before between after added same came = tt
 
 -- what is heard of a test is what is heard of it alone
-pub heard_alone : (looks : Looks) (request : Request) (t : Task) → came_by (task_part looks request t).value (gist_of (task_part looks request t).notes) ≡ task_came t (record { looks = looks; request = request })
+pub heard_alone : (looks : Looks) (request : Request) (t : TestTask) → came_by (task_part looks request t).value (gist_of (task_part looks request t).notes) ≡ task_came t (record { looks = looks; request = request })
 heard_alone looks request (task.Target x) = refl
 heard_alone looks request (task.RuleTarget rule) = refl
 heard_alone looks request (task.Condition within rule) = refl
 heard_alone looks request (task.Decision within rule) = refl
 
 -- what is noted of a test that is evaluated before anything was noted tells what is heard of it
-pub heard_by : (looks : Looks) (request : Request) (t : Task) (before after : Notes) (tested : Tested) (questions : List Question) (failed : Bool) → before.questions ≡ Some [] → before.failed ≡ false
+pub heard_by : (looks : Looks) (request : Request) (t : TestTask) (before after : Notes) (tested : Tested) (questions : List Question) (failed : Bool) → before.questions ≡ Some [] → before.failed ≡ false
     → tested ≡ (task_part looks request t).value → after ≡ noting before (task_part looks request t).notes → IfSome after.questions (λ qs. questions ≡ qs) → failed ≡ after.failed
     → came_by tested (record { questions = questions; failed = failed }) ≡ task_came t (record { looks = looks; request = request })
 heard_by looks request t before after tested questions failed none well value noted asked fails =

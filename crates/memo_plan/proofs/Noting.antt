@@ -8,7 +8,7 @@ use Rattle.memo_plan.specs.Signed.{IsTested, NotesOne}
 use Rattle.memo_plan.specs.declared.task.Entry.{Entry}
 use Rattle.memo_plan.specs.declared.task.Item.{Item}
 use Rattle.memo_plan.specs.declared.task.Item.TheVariants as item
-use Rattle.memo_plan.specs.declared.task.Task.{Task}
+use Rattle.memo_plan.specs.declared.task.TestTask.{TestTask}
 
 module _ (tells : ℕ → ℕ → Came → Type 0) (place : ℕ) (e : Entry) (w : Scene) where
   -- of what is no test nothing is noted
@@ -20,7 +20,7 @@ module _ (tells : ℕ → ℕ → Came → Type 0) (place : ℕ) (e : Entry) (w 
     at (item.Test t) same fact = absurd (cc)
 
   -- of a test its number is
-  pub test_noted : (t : Task) (n : ℕ) (before after : List ℕ) → e.item ≡ item.Test t → after ≡ before ++ n ∷ [] → tells place n (task_came t w) → NotesOne constant tells (is_test e) place e (entry_came e w) before after
+  pub test_noted : (t : TestTask) (n : ℕ) (before after : List ℕ) → e.item ≡ item.Test t → after ≡ before ++ n ∷ [] → tells place n (task_came t w) → NotesOne constant tells (is_test e) place e (entry_came e w) before after
   test_noted t n before after is pushed tell = subst (λ i. NotesOne constant tells (item_is_test i) place e (item_came i w) before after) (sym is) (n, (pushed, tell))
 
 -- behind what is no test nothing is passed
@@ -32,10 +32,10 @@ nothing_passed e w i is none = subst (λ j. 0 ≡ (if item_goes_on j (item_came 
   at (item.Test t) fact = absurd (cc)
 
 -- behind a test, what stands below it where this doesn't count
-pub test_passed : (e : Entry) (w : Scene) (t : Task) (k : ℕ) (b : Bool) → e.item ≡ item.Test t → b ≡ task_goes_on t (task_came t w) → k ≡ (if b then 0 else e.skip) → k ≡ passed goes_on skip_of e (entry_came e w)
+pub test_passed : (e : Entry) (w : Scene) (t : TestTask) (k : ℕ) (b : Bool) → e.item ≡ item.Test t → b ≡ task_goes_on t (task_came t w) → k ≡ (if b then 0 else e.skip) → k ≡ passed goes_on skip_of e (entry_came e w)
 test_passed e w t k b is goes passes =
     passes ∙ ap (λ x. if x then 0 else e.skip) goes ∙ ap (λ i. if item_goes_on i (item_came i w) then 0 else e.skip) (sym is)
 
 -- what is known of a test still is
-pub tested_still : (has more : ℕ → Task → Type 0) → ((place : ℕ) (t : Task) → has place t → more place t) → (place : ℕ) (e : Entry) → IsTested has place e.item → IsTested more place e.item
+pub tested_still : (has more : ℕ → TestTask → Type 0) → ((place : ℕ) (t : TestTask) → has place t → more place t) → (place : ℕ) (e : Entry) → IsTested has place e.item → IsTested more place e.item
 tested_still has more still place e is = record { typed = is.typed; known = λ t same. still place t (is.known t same) }

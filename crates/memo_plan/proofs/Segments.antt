@@ -35,7 +35,7 @@ use Rattle.memo_plan.specs.Plan.{Fits, IsPlan, IsTyped, ItemFits, Scene, entry_c
 use Rattle.memo_plan.specs.Run.{run}
 use Rattle.memo_plan.specs.declared.task.Entry.{Entry}
 use Rattle.memo_plan.specs.declared.task.Item.TheVariants as item
-use Rattle.memo_plan.specs.declared.task.Task.TheVariants as task
+use Rattle.memo_plan.specs.declared.task.TestTask.TheVariants as task
 use Rattle.memo_plan.specs.declared.task.Within.{Within}
 use Rattle.memo_plan.specs.proofs_only.Entries.{AreEntries, Lists, child_tests, children_tests, element_entries, entry, found_tests, named_entries, no_given, policy_tests, reference_tests, rule_entries, set_tests, test_entry}
 use Rattle.memo_plan.proofs.Runs.{segment_below, segment_by, segment_none, segment_one, segment_then}

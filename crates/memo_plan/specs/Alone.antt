@@ -7,11 +7,11 @@ use Rattle.ent_walk.specs.Target.{target_part}
 use Rattle.memo_heard.specs.Heard.{decides_part}
 use Rattle.memo_heard.specs.declared.tested.Tested.{Tested}
 use Rattle.memo_heard.specs.declared.tested.Tested.TheVariants as tested
-use Rattle.memo_plan.specs.declared.task.Task.{Task}
-use Rattle.memo_plan.specs.declared.task.Task.TheVariants as task
+use Rattle.memo_plan.specs.declared.task.TestTask.{TestTask}
+use Rattle.memo_plan.specs.declared.task.TestTask.TheVariants as task
 
 -- what a test comes to, and what is noted of it
-abbrev pub task_part : Looks → Request → Task → Part Tested
+abbrev pub task_part : Looks → Request → TestTask → Part Tested
 task_part looks request (task.Target x) = mapped tested.Target (target_part looks request x)
 task_part looks request (task.RuleTarget rule) = mapped tested.Target (target_part looks request rule.target)
 task_part looks request (task.Condition within rule) = mapped tested.Condition (condition_part looks request within.definitions rule.condition)

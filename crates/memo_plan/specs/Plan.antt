@@ -14,8 +14,8 @@ use Rattle.memo_plan.specs.Run.{CameBy, run}
 use Rattle.memo_plan.specs.declared.task.Entry.{Entry}
 use Rattle.memo_plan.specs.declared.task.Item.{Item}
 use Rattle.memo_plan.specs.declared.task.Item.TheVariants as item
-use Rattle.memo_plan.specs.declared.task.Task.{Task}
-use Rattle.memo_plan.specs.declared.task.Task.TheVariants as task
+use Rattle.memo_plan.specs.declared.task.TestTask.{TestTask}
+use Rattle.memo_plan.specs.declared.task.TestTask.TheVariants as task
 
 -- what is held, and a request
 pub record Scene : Type 0 where
@@ -27,7 +27,7 @@ abbrev pub nothing_given : Answer → Heard Answer
 nothing_given a = heard (without_look a)
 
 -- what comes of a test
-abbrev pub task_came : Task → Scene → Came
+abbrev pub task_came : TestTask → Scene → Came
 task_came (task.Target x) w = target (heard (target_part w.looks w.request x))
 task_came (task.RuleTarget rule) w = target (heard (target_part w.looks w.request rule.target))
 task_came (task.Condition within rule) w = condition (heard (condition_part w.looks w.request within.definitions rule.condition))
@@ -49,14 +49,14 @@ below_condition (condition c) = is_true c.value
 below_condition _ = true
 
 -- whether what stands below a test counts, by what comes of it
-abbrev pub task_goes_on : Task → Came → Bool
+abbrev pub task_goes_on : TestTask → Came → Bool
 task_goes_on (task.Target x) c = below_target c
 task_goes_on (task.RuleTarget rule) c = below_rule c
 task_goes_on (task.Condition within rule) c = below_condition c
 task_goes_on (task.Decision within rule) c = true
 
 -- a test can be evaluated: each expression of it has its type
-abbrev pub TaskTyped : Task → Type 0
+abbrev pub TaskTyped : TestTask → Type 0
 TaskTyped (task.Target x) = target_is_typed x ≡ true
 TaskTyped (task.RuleTarget rule) = target_is_typed rule.target ≡ true
 TaskTyped (task.Condition within rule) = condition_is_typed within.definitions rule.condition ≡ true

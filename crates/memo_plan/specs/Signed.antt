@@ -2,24 +2,24 @@
 use Rattle.std.specs.Prelude.{◌≡◌, ℕ, Bool, true, false, List, [], ◌∷◌, ◌++◌, Some, slice_get}
 use Rattle.memo_heard.specs.Heard.{Came}
 use Rattle.memo_plan.specs.Plan.{TaskTyped, task_goes_on}
-use Rattle.memo_plan.specs.declared.way.Step.{Step}
+use Rattle.memo_plan.specs.declared.way.WayStep.{WayStep}
 use Rattle.memo_plan.specs.declared.task.Entry.{Entry}
 use Rattle.memo_plan.specs.declared.task.Item.{Item}
 use Rattle.memo_plan.specs.declared.task.Item.TheVariants as item
-use Rattle.memo_plan.specs.declared.task.Task.{Task}
+use Rattle.memo_plan.specs.declared.task.TestTask.{TestTask}
 
 -- a step has the number of the outcome that came of a test at a place, and says whether it goes on
-pub record Tells (tells : ℕ → ℕ → Came → Type 0) (place : ℕ) (t : Task) (c : Came) (s : Step) : Type 0 where
+pub record Tells (tells : ℕ → ℕ → Came → Type 0) (place : ℕ) (t : TestTask) (c : Came) (s : WayStep) : Type 0 where
   pub number : tells place s.number c
   pub goes_on : s.goes_on ≡ task_goes_on t c
 
 -- the test of an entry, if it has one, can be evaluated and is known at the entry's place
-pub record IsTested (has_test : ℕ → Task → Type 0) (place : ℕ) (i : Item) : Type 0 where
-  pub typed : (t : Task) → i ≡ item.Test t → TaskTyped t
-  pub known : (t : Task) → i ≡ item.Test t → has_test place t
+pub record IsTested (has_test : ℕ → TestTask → Type 0) (place : ℕ) (i : Item) : Type 0 where
+  pub typed : (t : TestTask) → i ≡ item.Test t → TaskTyped t
+  pub known : (t : TestTask) → i ≡ item.Test t → has_test place t
 
 -- so are those of all entries
-abbrev pub AreTested : (ℕ → Task → Type 0) → List Entry → Type 0
+abbrev pub AreTested : (ℕ → TestTask → Type 0) → List Entry → Type 0
 AreTested has_test entries = (place : ℕ) (e : Entry) → slice_get entries place ≡ Some e → IsTested has_test place e.item
 
 module _ {E C : Type 0} (constant : E → C) (tells : ℕ → ℕ → C → Type 0) where

@@ -11,7 +11,7 @@ ghost use Rattle.memo_heard.specs.Heard.{decides_part};
 ghost use Rattle.memo_plan.specs.Alone.{task_part};
 ghost use Rattle.memo_plan.specs.Plan.{TaskTyped};
 
-use crate::task::{Task, Within};
+use crate::task::{TestTask, Within};
 use ent_policy::{DocKey, Rule};
 use ent_request::{Answer, LookUps};
 use ent_trace::Path;
@@ -19,7 +19,7 @@ use ent_walk::{Truth, Walk};
 use memo_heard::Tested;
 use std::alloc::{AllocError, Global};
 
-impl Task {
+impl TestTask {
     /// What the test comes to, evaluated alone.
     ///
     /// # Errors
@@ -36,14 +36,14 @@ impl Task {
         ensures { IfOk result (Comes (in_walk L.looks walk.old task_part self.now) walk.old walk.new) }
     {
         match self {
-            Task::Target(target) => Ok(Tested::Target(walk.target(target)?)),
-            Task::RuleTarget(rule) => Ok(Tested::Target(walk.target(&rule.get().target)?)),
-            Task::Condition(within, rule) => {
+            TestTask::Target(target) => Ok(Tested::Target(walk.target(target)?)),
+            TestTask::RuleTarget(rule) => Ok(Tested::Target(walk.target(&rule.get().target)?)),
+            TestTask::Condition(within, rule) => {
                 let definitions = within.get().definitions.as_slice();
                 let truth = walk.condition(definitions, &rule.get().condition)?;
                 Ok(Tested::Condition(truth))
             }
-            Task::Decision(within, rule) => {
+            TestTask::Decision(within, rule) => {
                 let answer = decision(walk, within.get(), rule.get())?;
                 Ok(Tested::Decides(answer.unwrap_or(Answer::not_applicable(alloc))))
             }

@@ -12,7 +12,7 @@ ghost use Rattle.memo_plan.specs.proofs_only.Entries.{AreEntries, child_tests, c
 ghost use Rattle.memo_plan.specs.proofs_only.Entries.{named_entries, no_given, policy_tests, reference_tests};
 ghost use Rattle.memo_plan.specs.proofs_only.Entries.{rule_entries, set_tests, tree_tests};
 
-use crate::task::{Entry, Item, Named, Task, Within};
+use crate::task::{Entry, Item, NamedDocument, TestTask, Within};
 use ent_clone::{copied_definitions, copied_rule, copied_target, copied_tree};
 use ent_policy::{
     Child, DocKey, GivenExpressions, Kind, Policy, PolicySet, Reference, Rule, Target, Tree,
@@ -237,15 +237,15 @@ fn add_rule(
 {
     let rule = Shared::new(alloc, copied_rule(alloc, rule)?)?;
     entries.push(Entry {
-        item: Item::Test(Task::RuleTarget(rule.copy()?)),
+        item: Item::Test(TestTask::RuleTarget(rule.copy()?)),
         skip: 2,
     })?;
     entries.push(Entry {
-        item: Item::Test(Task::Condition(within.copy()?, rule.copy()?)),
+        item: Item::Test(TestTask::Condition(within.copy()?, rule.copy()?)),
         skip: 1,
     })?;
     entries.push(Entry {
-        item: Item::Test(Task::Decision(within.copy()?, rule)),
+        item: Item::Test(TestTask::Decision(within.copy()?, rule)),
         skip: 0,
     })
 }
@@ -265,7 +265,7 @@ fn element(alloc: Global, target: &Target, below: Items<Entry>) -> Result<Items<
     let mut entries = Items::of_one(
         alloc,
         Entry {
-            item: Item::Test(Task::Target(copied_target(alloc, target)?)),
+            item: Item::Test(TestTask::Target(copied_target(alloc, target)?)),
             skip: behind.len(),
         },
     )?;
@@ -282,7 +282,7 @@ fn named(
 ) -> Result<Items<Entry>, NoPlan>
     ensures { IfOk result (λ es. es ≡ named_entries reference.now copy below) }
 {
-    let named = Named {
+    let named = NamedDocument {
         reference: reference.copy(alloc)?,
         copy,
     };

@@ -9,5 +9,5 @@ mod way;
 
 pub use entries::plan_of;
 pub use law::equal_ways_are_heard_alike;
-pub use task::{Entry, Item, Named, Task, Within};
-pub use way::{Outcomes, Step, sign};
+pub use task::{Entry, Item, NamedDocument, TestTask, Within};
+pub use way::{Outcomes, WayStep, sign};

@@ -12,7 +12,7 @@ pub struct Within {
 
 /// What is tested.
 #[derive(Drop)]
-pub enum Task {
+pub enum TestTask {
     /// The target of a policy or a set.
     Target(Target),
     /// The target of a rule.
@@ -25,7 +25,7 @@ pub enum Task {
 
 /// A reference, with a document that is equal to the one that it names, if there is one.
 #[derive(Drop)]
-pub struct Named {
+pub struct NamedDocument {
     pub reference: Reference,
     pub copy: Option<Tree>,
 }
@@ -34,11 +34,11 @@ pub struct Named {
 #[derive(Drop)]
 pub enum Item {
     /// A reference that is followed.
-    Named(Shared<Named>),
+    Named(Shared<NamedDocument>),
     /// That a policy or a set gives nothing itself.
     Given,
     /// A test.
-    Test(Task),
+    Test(TestTask),
 }
 
 /// An entry, and how many behind it are passed where what stands below it doesn't count.

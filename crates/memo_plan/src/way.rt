@@ -5,19 +5,19 @@ ghost use Rattle.memo_heard.specs.Heard.{Came};
 ghost use Rattle.memo_plan.specs.Plan.{Scene, TaskTyped, constant, entry_came, goes_on, is_test, skip_of, task_came};
 ghost use Rattle.memo_plan.specs.Run.{CameBy, passed, run};
 ghost use Rattle.memo_plan.specs.Signed.{AreTested, Grows, IsTested, NotesOne, Tells};
-ghost use Rattle.memo_plan.specs.declared.task.Task.{Task};
+ghost use Rattle.memo_plan.specs.declared.task.TestTask.{TestTask};
 
-use crate::task::{Entry, Item, Task};
+use crate::task::{Entry, Item, TestTask};
 use std::alloc::AllocError;
 
 /// The number of a test's outcome, and whether what stands below the test counts.
 #[derive(Clone, Copy)]
-pub struct Step {
+pub struct WayStep {
     pub number: u32,
     pub goes_on: bool,
 }
 
-impl Step {
+impl WayStep {
     // How many entries behind a test are passed, where so many stand below it.
     fn passed(self, below: usize) -> usize
         ensures { result ≡ (if self.goes_on then 0 else below) }
@@ -32,7 +32,7 @@ pub trait Outcomes {
     ghost scene: { Self → Scene };
 
     /// What is known at a place is known of this test.
-    ghost has_test: { Self → ℕ → Task → Type 0 };
+    ghost has_test: { Self → ℕ → TestTask → Type 0 };
 
     /// A number of the test at a place tells this.
     ghost tells: { Self → ℕ → ℕ → Came → Type 0 };
@@ -41,7 +41,7 @@ pub trait Outcomes {
     ghost follows: { Self → Self → Type 0 };
 
     /// The number of the outcome of the test at a place. Numbers go on telling what they told, whatever comes.
-    fn step(&mut self, place: usize, task: &Task) -> Result<Step, AllocError>
+    fn step(&mut self, place: usize, task: &TestTask) -> Result<WayStep, AllocError>
         requires typed { TaskTyped task.now }
         requires test { has_test self.old place task.now }
         ensures tells { IfOk result (Tells (tells self.new) place task.now (task_came task.now (scene self.old))) }

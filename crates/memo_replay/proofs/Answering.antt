@@ -20,7 +20,7 @@ use Rattle.memo_answers.specs.Told.{Signs}
 use Rattle.memo_replay.specs.Joined.{IsJoined}
 use Rattle.memo_replay.specs.declared.joined.Joined.{Joined}
 use Rattle.memo_replay.specs.declared.over.Over.{Over}
-use Rattle.memo_replay.specs.declared.state.State.{State}
+use Rattle.memo_replay.specs.declared.state.JoinState.{JoinState}
 use Rattle.memo_replay.specs.proofs_only.Heard.{HearsMore, StaysThere, gist_in, joined}
 use Rattle.memo_replay.specs.proofs_only.Stands.{Joins, Stands, StandsFrom, questions_of}
 use Rattle.memo_replay.proofs.Hearing.{hears_then, joined_assoc}
@@ -32,7 +32,7 @@ abbrev gist_with : List Question → List ℕ → Bool → Gist
 gist_with questions ns b = record { questions = at_numbers questions ns; failed = b }
 
 -- the root is asked for, and its document is joined
-pub is_joined : {L : Type 0} (over : Over L) (w : Scene) (root : Reference) (old mid after : State) (j : Joined)
+pub is_joined : {L : Type 0} (over : Over L) (w : Scene) (root : Reference) (old mid after : JoinState) (j : Joined)
     → w.looks.root ≡ Some root → old.asked ≡ [] → old.failed ≡ false
     → HearsMore (questions_of over) asked_root old mid → Stands over mid (came w.looks w.request)
     → Joins over (reference_tests 7 [] root w) (reference_part w.looks w.request 7 [] root) mid after j.answer
@@ -58,7 +58,7 @@ is_joined over w root old mid after j root-is none fine first stands joins asked
     }
 
 -- what comes of the tests stands first, and asking for the root passes nothing
-pub stands_first : {L : Type 0} (over : Over L) (old mid : State) (cs : List Came) → IsDistinct same_question (questions_of over) → old.place ≡ 0 → StaysThere old mid
+pub stands_first : {L : Type 0} (over : Over L) (old mid : JoinState) (cs : List Came) → IsDistinct same_question (questions_of over) → old.place ≡ 0 → StaysThere old mid
     → Signs over.entries.now (TellsIn (questions_of over) over.tests.now) (drop old.at over.way.now) cs → Stands over mid cs
 stands_first over old mid cs distinct first there signs =
     let base : StandsFrom over 0 old.at cs = record { distinct = distinct; came = signs } in

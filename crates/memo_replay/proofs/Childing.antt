@@ -38,7 +38,7 @@ use Rattle.memo_heard.proofs.Gists.{gist_append, heard_settled}
 use Rattle.memo_plan.specs.Plan.{Scene}
 use Rattle.memo_plan.specs.proofs_only.Entries.{child_tests, children_tests, found_tests, policy_tests, reference_tests, set_tests}
 use Rattle.memo_replay.specs.declared.over.Over.{Over}
-use Rattle.memo_replay.specs.declared.state.State.{State}
+use Rattle.memo_replay.specs.declared.state.JoinState.{JoinState}
 use Rattle.memo_replay.specs.proofs_only.Heard.{HearsMore, HearsNothing, StaysThere, joined}
 use Rattle.memo_replay.specs.proofs_only.Heard as heard_words
 use Rattle.memo_replay.specs.proofs_only.Stands.{Goes, Joins, Stands, TakesPart, questions_of, scene_in}
@@ -69,7 +69,7 @@ module _ (w : Scene) (hops : ℕ) (path : List DocKey) where
 
 module _ {L : Type 0} (over : Over L) where
   -- the same tests and the same part
-  joins_same : (tests others : List Came) (part other : Part Answer) (s t : State) (a : Answer) → others ≡ tests → other ≡ part
+  joins_same : (tests others : List Came) (part other : Part Answer) (s t : JoinState) (a : Answer) → others ≡ tests → other ≡ part
       → Joins over others other s t a → Joins over tests part s t a
   joins_same tests others part other s t a same alike joins =
       subst (λ p. Joins over tests p s t a) alike (subst (λ cs. Joins over cs other s t a) same joins)
@@ -77,7 +77,7 @@ module _ {L : Type 0} (over : Over L) where
   -- ---- children, one behind the other
 
   -- a child that is gathered, where what fails in it is passed over unless it is Indeterminate
-  pub takes_child : (tests : List Came) (part : Part Answer) (s t : State) (g h : Gathering) (a : Answer) (progress : Progress)
+  pub takes_child : (tests : List Came) (part : Part Answer) (s t : JoinState) (g h : Gathering) (a : Answer) (progress : Progress)
       → Joins over tests part s t a → Gathers g h a → Tells g a progress → TakesPart over tests (heard (settled has_failed part)) s t g h progress
   takes_child tests part s t g h a progress joins gathers tells cs stands =
       let by = joins cs stands in (
@@ -107,22 +107,22 @@ module _ {L : Type 0} (over : Over L) where
     abbrev below : List Came
     below = children_tests hops (path ++ key ∷ []) set.children w
 
-    abbrev Set_joins : State → State → Answer → Type 0
+    abbrev Set_joins : JoinState → JoinState → Answer → Type 0
     Set_joins s t a = Joins over (set_tests hops path set w) (set_part w.looks w.request hops path set) s t a
 
-    as_element : (s t : State) (a : Answer) → Joins over (element_came (heard test) (λ x. heard (own x)) below) (element key test in_it own) s t a → Set_joins s t a
+    as_element : (s t : JoinState) (a : Answer) → Joins over (element_came (heard test) (λ x. heard (own x)) below) (element key test in_it own) s t a → Set_joins s t a
     as_element s t a joins =
         joins_same (set_tests hops path set w) (element_came (heard test) (λ x. heard (own x)) below) (set_part w.looks w.request hops path set) (element key test in_it own) s t a
         (sym (set_rolls hops path set w)) (sym (set_out w.looks w.request hops path set)) joins
 
-    pub set_joins_none : (s u : State) → Targets over s u is.NoMatch → Set_joins s u nothing
+    pub set_joins_none : (s u : JoinState) → Targets over s u is.NoMatch → Set_joins s u nothing
     set_joins_none s u targets = as_element s u nothing (element_none over key test in_it own below s u targets)
 
-    pub set_joins_match : (s u v t : State) (a : Answer) → Targets over s u is.Match → GivesNothing over u v → HearsNothing u v
+    pub set_joins_match : (s u v t : JoinState) (a : Answer) → Targets over s u is.Match → GivesNothing over u v → HearsNothing u v
         → Joins over below in_it v t a → Set_joins s t a
     set_joins_match s u v t a targets given silent joins = as_element s t a (element_match over key test in_it own below s u v t a targets given silent joins)
 
-    pub set_joins_under : (status : Status) (s u v t : State) (a b : Answer) → Targets over s u (is.Indeterminate status) → GivesNothing over u v → HearsNothing u v
+    pub set_joins_under : (status : Status) (s u v t : JoinState) (a b : Answer) → Targets over s u (is.Indeterminate status) → GivesNothing over u v → HearsNothing u v
         → Joins over below in_it v t a → b ≡ under_target status a.decision → Set_joins s t b
     set_joins_under status s u v t a b targets given silent joins under =
         as_element s t b (element_under over key test in_it own below status s u v t a b targets given silent joins under)
@@ -130,16 +130,16 @@ module _ {L : Type 0} (over : Over L) where
   -- ---- references
 
   -- this was asked and nothing else, and a document is what comes of it
-  abbrev pub Names : Reference → State → State → Option Tree → Type 0
+  abbrev pub Names : Reference → JoinState → JoinState → Option Tree → Type 0
   Names reference s u found = (o : Option Tree) (cs : List Came) → Stands over s (named o ∷ cs)
       → (found ≡ o) × Goes over s u (gist_of (asks (Ref reference) ∷ [])) cs
 
   module _ (w : Scene) (path : List DocKey) (reference : Reference) where
-    abbrev Follows : ℕ → State → State → Answer → Type 0
+    abbrev Follows : ℕ → JoinState → JoinState → Answer → Type 0
     Follows hops s t a = Joins over (reference_tests hops path reference w) (reference_part w.looks w.request hops path reference) s t a
 
     -- none may be followed
-    pub reference_too_far : (hops : ℕ) (s t : State) → hops ≡ 0 → HearsMore (questions_of over) heard_words.failing s t → StaysThere s t → Follows hops s t unresolved
+    pub reference_too_far : (hops : ℕ) (s t : JoinState) → hops ≡ 0 → HearsMore (questions_of over) heard_words.failing s t → StaysThere s t → Follows hops s t unresolved
     reference_too_far hops s t none fails there =
         subst (λ n. Follows n s t unresolved) (sym none) (λ cs stands. (refl, goes_hearing over s t heard_words.failing cs fails there stands))
 
@@ -151,7 +151,7 @@ module _ {L : Type 0} (over : Over L) where
       abbrev part_at : Option Tree → Part Answer
       part_at o = (found_node reference (node_of w.looks w.request hops) o).answer path
 
-      reference_followed : (s u t : State) (found : Option Tree) (a : Answer) → Names reference s u found → Joins over (tests_at found) (part_at found) u t a → Follows (suc hops) s t a
+      reference_followed : (s u t : JoinState) (found : Option Tree) (a : Answer) → Names reference s u found → Joins over (tests_at found) (part_at found) u t a → Follows (suc hops) s t a
       reference_followed s u t found a names joins cs stands =
           let asked : Gist = gist_of (asks (Ref reference) ∷ []) in
           let came = names (w.looks.document reference) (tests_at (w.looks.document reference) ++ cs) stands in
@@ -164,14 +164,14 @@ module _ {L : Type 0} (over : Over L) where
           )
 
     -- one that names no document
-    pub reference_unfound : (hops : ℕ) (s u t : State) → 0 < hops → Names reference s u None
+    pub reference_unfound : (hops : ℕ) (s u t : JoinState) → 0 < hops → Names reference s u None
         → HearsMore (questions_of over) heard_words.failing u t → StaysThere u t → Follows hops s t unresolved
     reference_unfound zero s u t left names fails there = absurd (omega (arith, left))
     reference_unfound (suc hops) s u t left names fails there =
         reference_followed hops s u t None unresolved names (λ cs stands. (refl, goes_hearing over u t heard_words.failing cs fails there stands))
 
     -- one that names a document
-    pub reference_found : (hops : ℕ) (s u t : State) (found : Tree) (a : Answer) → 0 < hops → Names reference s u (Some found)
+    pub reference_found : (hops : ℕ) (s u t : JoinState) (found : Tree) (a : Answer) → 0 < hops → Names reference s u (Some found)
         → Joins over (child_tests (hops - 1) path (as_child found) w) (child_part w.looks w.request (hops - 1) path (as_child found)) u t a → Follows hops s t a
     reference_found zero s u t found a left names joins = absurd (omega (arith, left))
     reference_found (suc hops) s u t found a left names joins =
@@ -186,18 +186,18 @@ module _ {L : Type 0} (over : Over L) (looks : L → Looks) (hops : ℕ) (path :
   w = scene_in looks over
 
   -- where something comes back, it is joined of these tests
-  abbrev pub Back : {E : Type 0} → Result (Option Answer) E → List Came → Part Answer → State → State → Type 0
+  abbrev pub Back : {E : Type 0} → Result (Option Answer) E → List Came → Part Answer → JoinState → JoinState → Type 0
   Back result tests part s t = IfOk result (λ a. Joins over tests part s t (or_nothing a))
 
-  back_same : {E : Type 0} (result : Result (Option Answer) E) (tests others : List Came) (part other : Part Answer) (s t : State) → others ≡ tests → other ≡ part
+  back_same : {E : Type 0} (result : Result (Option Answer) E) (tests others : List Came) (part other : Part Answer) (s t : JoinState) → others ≡ tests → other ≡ part
       → Back result others other s t → Back result tests part s t
   back_same result tests others part other s t same alike back =
       subst (λ p. Back result tests p s t) alike (subst (λ cs. Back result cs other s t) same back)
 
-  abbrev Child_back : {E : Type 0} → Result (Option Answer) E → Child → State → State → Type 0
+  abbrev Child_back : {E : Type 0} → Result (Option Answer) E → Child → JoinState → JoinState → Type 0
   Child_back result child s t = Back result (child_tests hops path child w) (child_part w.looks w.request hops path child) s t
 
-  pub policy_back : {E : Type 0} (result : Result (Option Answer) E) (child : Child) (policy : Policy) (s t : State) → child ≡ children.Policy policy
+  pub policy_back : {E : Type 0} (result : Result (Option Answer) E) (child : Child) (policy : Policy) (s t : JoinState) → child ≡ children.Policy policy
       → Back result (policy_tests path policy w) (policy_part w.looks w.request path policy) s t → Child_back result child s t
   policy_back result child policy s t is back =
       subst (λ c. Child_back result c s t) (sym is)
@@ -205,7 +205,7 @@ module _ {L : Type 0} (over : Over L) (looks : L → Looks) (hops : ℕ) (path :
       (child_part w.looks w.request hops path (children.Policy policy)) (policy_part w.looks w.request path policy) s t
       (sym (policy_child hops path policy w)) (policy_is w hops path policy) back)
 
-  pub set_back : {E : Type 0} (result : Result (Option Answer) E) (child : Child) (set : PolicySet) (s t : State) → child ≡ children.Set set
+  pub set_back : {E : Type 0} (result : Result (Option Answer) E) (child : Child) (set : PolicySet) (s t : JoinState) → child ≡ children.Set set
       → Back result (set_tests hops path set w) (set_part w.looks w.request hops path set) s t → Child_back result child s t
   set_back result child set s t is back =
       subst (λ c. Child_back result c s t) (sym is)
@@ -213,7 +213,7 @@ module _ {L : Type 0} (over : Over L) (looks : L → Looks) (hops : ℕ) (path :
       (child_part w.looks w.request hops path (children.Set set)) (set_part w.looks w.request hops path set) s t
       (sym (set_child hops path set w)) (set_is w hops path set) back)
 
-  pub reference_back : {E : Type 0} (result : Result (Option Answer) E) (child : Child) (reference : Reference) (s t : State) → child ≡ children.Reference reference
+  pub reference_back : {E : Type 0} (result : Result (Option Answer) E) (child : Child) (reference : Reference) (s t : JoinState) → child ≡ children.Reference reference
       → Back result (reference_tests hops path reference w) (reference_part w.looks w.request hops path reference) s t → Child_back result child s t
   reference_back result child reference s t is back =
       subst (λ c. Child_back result c s t) (sym is)
@@ -222,7 +222,7 @@ module _ {L : Type 0} (over : Over L) (looks : L → Looks) (hops : ℕ) (path :
       (sym (reference_child hops path reference w)) (reference_is w hops path reference) back)
 
   -- a reference that is followed
-  pub followed_back : {E : Type 0} (result : Result (Option Answer) E) (reference : Reference) (found : Tree) (s u t : State) → 0 < hops → Names over reference s u (Some found)
+  pub followed_back : {E : Type 0} (result : Result (Option Answer) E) (reference : Reference) (found : Tree) (s u t : JoinState) → 0 < hops → Names over reference s u (Some found)
       → Back result (child_tests (hops - 1) path (as_child found) w) (child_part w.looks w.request (hops - 1) path (as_child found)) u t
       → Back result (reference_tests hops path reference w) (reference_part w.looks w.request hops path reference) s t
   followed_back result reference found s u t left names back =
@@ -236,7 +236,7 @@ module _ {L : Type 0} (over : Over L) (looks : L → Looks) (hops : ℕ) (path :
     here = path ++ set_key set.id set.version ∷ []
 
     -- the children of a set
-    pub children_back : {E : Type 0} (result : Result (Option Answer) E) (algorithm : RuleAlg) (at : List DocKey) (children : List Child) (s t : State)
+    pub children_back : {E : Type 0} (result : Result (Option Answer) E) (algorithm : RuleAlg) (at : List DocKey) (children : List Child) (s t : JoinState)
         → Back result (children_tests hops at children w) (children_combined w.looks w.request hops at algorithm children) s t
         → set.algorithm ≡ Shared algorithm → at ≡ here → children ≡ set.children
         → Back result (children_tests hops here set.children w) (set_children w.looks w.request hops path set) s t
@@ -247,7 +247,7 @@ module _ {L : Type 0} (over : Over L) (looks : L → Looks) (hops : ℕ) (path :
         (shared-part w.looks w.request hops path set algorithm at children by at-is children-is) back
 
     -- a set whose target matches
-    pub match_back : {E : Type 0} (result : Result (Option Answer) E) (s u v t : State) → Targets over s u is.Match → GivesNothing over u v → HearsNothing u v
+    pub match_back : {E : Type 0} (result : Result (Option Answer) E) (s u v t : JoinState) → Targets over s u is.Match → GivesNothing over u v → HearsNothing u v
         → Back result (children_tests hops here set.children w) (set_children w.looks w.request hops path set) v t
         → Back result (set_tests hops path set w) (set_part w.looks w.request hops path set) s t
     match_back result s u v t targets given silent back =

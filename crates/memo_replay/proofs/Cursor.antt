@@ -17,14 +17,14 @@ use Rattle.memo_plan.specs.Run.{CameBy, Signs, passed}
 use Rattle.memo_plan.specs.declared.task.Entry.{Entry}
 use Rattle.memo_plan.specs.declared.task.Item.{Item}
 use Rattle.memo_plan.specs.declared.task.Item.TheVariants as item
-use Rattle.memo_plan.specs.declared.task.Task.{Task}
+use Rattle.memo_plan.specs.declared.task.TestTask.{TestTask}
 use Rattle.memo_tests.specs.Tested.{came_of}
-use Rattle.memo_tests.specs.declared.outcome.Outcome.{Outcome}
+use Rattle.memo_tests.specs.declared.outcome.TestOutcome.{TestOutcome}
 use Rattle.memo_tests.specs.declared.test.Test.{Test}
 use Rattle.memo_answers.specs.Known.{TellsIn}
 use Rattle.memo_replay.specs.declared.over.Next.{Next}
 use Rattle.memo_replay.specs.declared.over.Over.{Over}
-use Rattle.memo_replay.specs.declared.state.State.{State}
+use Rattle.memo_replay.specs.declared.state.JoinState.{JoinState}
 use Rattle.memo_replay.specs.proofs_only.Heard.{HearsMore, HearsNothing, StaysThere, gist_by}
 use Rattle.memo_replay.specs.proofs_only.Stands.{Goes, IsNext, Stands, StandsFrom, questions_of}
 use Rattle.memo_replay.proofs.Hearing.{hears_before_nothing, hears_behind_nothing, stands_there}
@@ -76,14 +76,14 @@ module _ {E C : Type 0} (is_test : E → Bool) (constant : E → C) (tells : ℕ
 -- ---- where a state stands
 
 -- how many are passed behind a test that comes to this
-passed_there : (e : Entry) (task : Task) (c d : Came) → e.item ≡ item.Test task → c ≡ d
+passed_there : (e : Entry) (task : TestTask) (c d : Came) → e.item ≡ item.Test task → c ≡ d
     → passed goes_on skip_of e c ≡ (if task_goes_on task d then 0 else e.skip)
 passed_there e task c d is same =
     ap (λ (x : Came). if item_goes_on e.item x then 0 else e.skip) same ∙ ap (λ (i : Item). if item_goes_on i d then 0 else e.skip) is
 
 module _ {L : Type 0} (over : Over L) where
   -- the outcome that is found for the test that stands next tells what comes of it
-  pub next_is : (place at n : ℕ) (e : Entry) (task : Task) (x : Test) (o : Outcome) (next : Next) (c : Came) (cs : List Came)
+  pub next_is : (place at n : ℕ) (e : Entry) (task : TestTask) (x : Test) (o : TestOutcome) (next : Next) (c : Came) (cs : List Came)
       → slice_get over.entries.now place ≡ Some e → e.item ≡ item.Test task → slice_get over.way.now at ≡ Some n
       → slice_get over.tests.now place ≡ Some x → slice_get x.outcomes.items n ≡ Some o → next.outcome.now ≡ o
       → ((g : Gist) → next.passed ≡ (if task_goes_on task (came_by o.tested g) then 0 else e.skip))
@@ -101,7 +101,7 @@ module _ {L : Type 0} (over : Over L) where
       passes (gist_by qs o) ∙ sym (passed_there e task c (came_of qs o) test (came ∙ ap (came_of qs) is)) in
       record {
         came = came;
-        within = subst (λ (p : Outcome). AreNumbers qs p.asked) this tells.1.1.1.1.0;
+        within = subst (λ (p : TestOutcome). AreNumbers qs p.asked) this tells.1.1.1.1.0;
         rest = record {
           distinct = stands.distinct;
           came =
@@ -114,7 +114,7 @@ module _ {L : Type 0} (over : Over L) where
       }
 
   -- the document that is named stands next, and its question is asked before it is read
-  pub named_heard : {D E : Type 0} (tree : D → Option Tree) (r : Result D E) (reference : Reference) (n : ℕ) (s t u v : State)
+  pub named_heard : {D E : Type 0} (tree : D → Option Tree) (r : Result D E) (reference : Reference) (n : ℕ) (s t u v : JoinState)
       → slice_get (questions_of over) n ≡ Some (Ref reference) → HearsNothing s t → StaysThere s t
       → ((questions : List Question) (q : Question) → IsDistinct same_question questions → slice_get questions n ≡ Some q → HearsMore questions (gist_of (asks q ∷ [])) t u)
       → StaysThere t u → HearsNothing u v

@@ -15,18 +15,18 @@ use Rattle.memo_heard.specs.Heard.{Came, Heard, element_came, gist_of, gives, he
 use Rattle.memo_heard.proofs.Gists.{behind, element_heard, heard_after, heard_then}
 use Rattle.memo_plan.specs.Plan.{nothing_given}
 use Rattle.memo_replay.specs.declared.over.Over.{Over}
-use Rattle.memo_replay.specs.declared.state.State.{State}
+use Rattle.memo_replay.specs.declared.state.JoinState.{JoinState}
 use Rattle.memo_replay.specs.proofs_only.Heard.{HearsNothing, joined}
 use Rattle.memo_replay.specs.proofs_only.Stands.{Goes, Joins, Stands, questions_of}
 use Rattle.memo_replay.proofs.Hearing.{goes_same, hears_before_nothing, hears_then, joined_none}
 
 module _ {L : Type 0} (over : Over L) where
   -- where a target stands next, this is what it came to, and it was heard
-  abbrev pub Targets : State → State → Targeted → Type 0
+  abbrev pub Targets : JoinState → JoinState → Targeted → Type 0
   Targets before after v = (h : Heard Targeted) (cs : List Came) → Stands over before (target h ∷ cs) → (v ≡ h.value) × Goes over before after h.gist cs
 
   -- where something gives stands next, it gives nothing
-  abbrev pub GivesNothing : State → State → Type 0
+  abbrev pub GivesNothing : JoinState → JoinState → Type 0
   GivesNothing before after = (own : Answer → Heard Answer) (cs : List Came) → Stands over before (gives own ∷ cs) → (own ≡ nothing_given) × Stands over after cs
 
   module _ (key : DocKey) (t : Part Targeted) (p : Part Answer) (own : Answer → Part Answer) (children : List Came) where
@@ -40,14 +40,14 @@ module _ {L : Type 0} (over : Over L) where
     abbrev Left : Targeted → List Came → List Came
     Left v cs = (if is_no_match v then [] else gives own_heard ∷ children) ++ cs
 
-    below : (v : Targeted) (s u : State) (cs : List Came) → v ≡ t.value → Goes over s u (gist_of t.notes) (Left t.value cs) → Goes over s u (gist_of t.notes) (Left v cs)
+    below : (v : Targeted) (s u : JoinState) (cs : List Came) → v ≡ t.value → Goes over s u (gist_of t.notes) (Left t.value cs) → Goes over s u (gist_of t.notes) (Left v cs)
     below v s u cs is goes = subst (λ x. Goes over s u (gist_of t.notes) (Left x cs)) (sym is) goes
 
-    abbrev Whole : State → State → Answer → Type 0
+    abbrev Whole : JoinState → JoinState → Answer → Type 0
     Whole before after a = Joins over (element_came (heard t) own_heard children) (element key t p own) before after a
 
     -- where the target doesn't match
-    pub element_none : (s u : State) → Targets s u is.NoMatch → Whole s u nothing
+    pub element_none : (s u : JoinState) → Targets s u is.NoMatch → Whole s u nothing
     element_none s u targets cs stands =
         let came = targets (heard t) (Left t.value cs) stands in
         let same = by_target is.NoMatch came.0 in (
@@ -58,7 +58,7 @@ module _ {L : Type 0} (over : Over L) where
         )
 
     -- where it matches
-    pub element_match : (s u v w : State) (a : Answer) → Targets s u is.Match → GivesNothing u v → HearsNothing u v
+    pub element_match : (s u v w : JoinState) (a : Answer) → Targets s u is.Match → GivesNothing u v → HearsNothing u v
         → Joins over children p v w a → Whole s w a
     element_match s u v w a targets given silent joins cs stands =
         let came = targets (heard t) (Left t.value cs) stands in
@@ -77,7 +77,7 @@ module _ {L : Type 0} (over : Over L) where
         )
 
     -- where it is Indeterminate
-    pub element_under : (status : Status) (s u v w : State) (a b : Answer) → Targets s u (is.Indeterminate status) → GivesNothing u v → HearsNothing u v
+    pub element_under : (status : Status) (s u v w : JoinState) (a b : Answer) → Targets s u (is.Indeterminate status) → GivesNothing u v → HearsNothing u v
         → Joins over children p v w a → b ≡ under_target status a.decision → Whole s w b
     element_under status s u v w a b targets given silent joins under cs stands =
         let came = targets (heard t) (Left t.value cs) stands in

@@ -26,9 +26,9 @@ use Rattle.memo_heard.specs.Heard.{Came, Gist, Heard, Tests, child_came, conditi
 use Rattle.memo_plan.specs.Plan.{Scene, nothing_given}
 use Rattle.memo_plan.specs.proofs_only.Entries.{child_tests, children_tests, found_tests, policy_tests, reference_tests, set_tests}
 use Rattle.memo_tests.specs.Tested.{came_of}
-use Rattle.memo_tests.specs.declared.outcome.Outcome.{Outcome}
+use Rattle.memo_tests.specs.declared.outcome.TestOutcome.{TestOutcome}
 use Rattle.memo_replay.specs.declared.over.Over.{Over}
-use Rattle.memo_replay.specs.declared.state.State.{State}
+use Rattle.memo_replay.specs.declared.state.JoinState.{JoinState}
 use Rattle.memo_replay.specs.proofs_only.Heard.{gist_by}
 use Rattle.memo_replay.specs.proofs_only.Stands.{Passes, Stands, questions_of}
 
@@ -85,24 +85,24 @@ first_left (x ∷ xs) i below = (get_or (x ∷ xs) i x, drop_more (x ∷ xs) i x
 
 module _ {L : Type 0} (over : Over L) where
   -- behind an outcome, which tells what comes first
-  abbrev pub GoesBehind : Outcome → State → State → Type 0
+  abbrev pub GoesBehind : TestOutcome → JoinState → JoinState → Type 0
   GoesBehind o before after = (c : Came) (cs : List Came) → Stands over before (c ∷ cs)
       → (c ≡ came_of (questions_of over) o) × (AreNumbers (questions_of over) o.asked × Stands over after cs)
 
   -- behind what an element gives
-  abbrev pub GoesGiven : State → State → Type 0
+  abbrev pub GoesGiven : JoinState → JoinState → Type 0
   GoesGiven before after = (own : Answer → Heard Answer) (cs : List Came) → Stands over before (gives own ∷ cs) → (own ≡ nothing_given) × Stands over after cs
 
   -- behind a document that is named
-  abbrev pub GoesNamed : Option Tree → State → State → Type 0
+  abbrev pub GoesNamed : Option Tree → JoinState → JoinState → Type 0
   GoesNamed d before after = (o : Option Tree) (cs : List Came) → Stands over before (named o ∷ cs) → (d ≡ o) × Stands over after cs
 
   -- where a test is a target, a question of it has this answer
-  abbrev pub TargetIs : (Targeted → Bool) → Outcome → Bool → Type 0
+  abbrev pub TargetIs : (Targeted → Bool) → TestOutcome → Bool → Type 0
   TargetIs holds o b = (t : Heard Targeted) (g : Gist) → came_by o.tested g ≡ target t → b ≡ holds t.value
 
   -- where it is a condition
-  abbrev pub ConditionIs : (Truth → Bool) → Outcome → Bool → Type 0
+  abbrev pub ConditionIs : (Truth → Bool) → TestOutcome → Bool → Type 0
   ConditionIs holds o b = (t : Heard Truth) (g : Gist) → came_by o.tested g ≡ condition t → b ≡ holds t.value
 
   -- what of a rule comes behind its condition
@@ -117,48 +117,48 @@ module _ {L : Type 0} (over : Over L) where
   abbrev behind_element : (Answer → Heard Answer) → List Came → Bool → List Came
   behind_element own below b = if b then [] else gives own ∷ below
 
-  after_target : (holds : Targeted → Bool) (f : Bool → List Came) (s u : State) (o : Outcome) (t : Heard Targeted) (b : Bool) (cs : List Came)
+  after_target : (holds : Targeted → Bool) (f : Bool → List Came) (s u : JoinState) (o : TestOutcome) (t : Heard Targeted) (b : Bool) (cs : List Came)
       → GoesBehind o s u → TargetIs holds o b → Stands over s (target t ∷ (f (holds t.value) ++ cs)) → Stands over u (f b ++ cs)
   after_target holds f s u o t b cs behind is stands =
       let first = behind (target t) (f (holds t.value) ++ cs) stands in
       subst (λ (x : Bool). Stands over u (f x ++ cs)) (sym (is t (gist_by (questions_of over) o) (sym first.0))) first.1.1
 
-  after_condition : (holds : Truth → Bool) (f : Bool → List Came) (s u : State) (o : Outcome) (t : Heard Truth) (b : Bool) (cs : List Came)
+  after_condition : (holds : Truth → Bool) (f : Bool → List Came) (s u : JoinState) (o : TestOutcome) (t : Heard Truth) (b : Bool) (cs : List Came)
       → GoesBehind o s u → ConditionIs holds o b → Stands over s (condition t ∷ (f (holds t.value) ++ cs)) → Stands over u (f b ++ cs)
   after_condition holds f s u o t b cs behind is stands =
       let first = behind (condition t) (f (holds t.value) ++ cs) stands in
       subst (λ (x : Bool). Stands over u (f x ++ cs)) (sym (is t (gist_by (questions_of over) o) (sym first.0))) first.1.1
 
   -- a rule whose target doesn't match
-  pub rule_unmatched : (s u : State) (o : Outcome) (t : Heard Targeted) (c : Heard Truth) (a : Heard Answer)
+  pub rule_unmatched : (s u : JoinState) (o : TestOutcome) (t : Heard Targeted) (c : Heard Truth) (a : Heard Answer)
       → GoesBehind o s u → TargetIs is_match o false → Passes over (rule_came t c a) s u
   rule_unmatched s u o t c a behind is cs stands = after_target is_match (behind_target c a) s u o t false cs behind is stands
 
   -- whose condition isn't True
-  pub rule_untrue : (s u v : State) (o p : Outcome) (t : Heard Targeted) (c : Heard Truth) (a : Heard Answer)
+  pub rule_untrue : (s u v : JoinState) (o p : TestOutcome) (t : Heard Targeted) (c : Heard Truth) (a : Heard Answer)
       → GoesBehind o s u → TargetIs is_match o true → GoesBehind p u v → ConditionIs is_true p false → Passes over (rule_came t c a) s v
   rule_untrue s u v o p t c a behind is further so cs stands =
       after_condition is_true (behind_condition a) u v p c false cs further so (after_target is_match (behind_target c a) s u o t true cs behind is stands)
 
   -- that decides
-  pub rule_true : (s u v x : State) (o p q : Outcome) (t : Heard Targeted) (c : Heard Truth) (a : Heard Answer)
+  pub rule_true : (s u v x : JoinState) (o p q : TestOutcome) (t : Heard Targeted) (c : Heard Truth) (a : Heard Answer)
       → GoesBehind o s u → TargetIs is_match o true → GoesBehind p u v → ConditionIs is_true p true → GoesBehind q v x → Passes over (rule_came t c a) s x
   rule_true s u v x o p q t c a behind is further so last cs stands =
       (last (decides a) cs (after_condition is_true (behind_condition a) u v p c true cs further so (after_target is_match (behind_target c a) s u o t true cs behind is stands))).1.1
 
   -- an element whose target doesn't match
-  pub element_unmatched : (s u : State) (o : Outcome) (t : Heard Targeted) (own : Answer → Heard Answer) (below : List Came)
+  pub element_unmatched : (s u : JoinState) (o : TestOutcome) (t : Heard Targeted) (own : Answer → Heard Answer) (below : List Came)
       → GoesBehind o s u → TargetIs is_no_match o true → Passes over (element_came t own below) s u
   element_unmatched s u o t own below behind is cs stands = after_target is_no_match (behind_element own below) s u o t true cs behind is stands
 
   -- whose children are passed
-  pub element_passed : (s u v x : State) (o : Outcome) (t : Heard Targeted) (own : Answer → Heard Answer) (below : List Came)
+  pub element_passed : (s u v x : JoinState) (o : TestOutcome) (t : Heard Targeted) (own : Answer → Heard Answer) (below : List Came)
       → GoesBehind o s u → TargetIs is_no_match o false → GoesGiven u v → Passes over below v x → Passes over (element_came t own below) s x
   element_passed s u v x o t own below behind is given passes cs stands =
       passes cs (given own (below ++ cs) (after_target is_no_match (behind_element own below) s u o t false cs behind is stands)).1
 
   -- a document that is named
-  pub named_passed : (s u v : State) (d : Option Tree) (hops : ℕ) (path : List DocKey) (reference : Reference) (w : Scene) → 0 < hops
+  pub named_passed : (s u v : JoinState) (d : Option Tree) (hops : ℕ) (path : List DocKey) (reference : Reference) (w : Scene) → 0 < hops
       → GoesNamed d s u → Passes over (found_tests (hops - 1) path d w) u v → Passes over (reference_tests hops path reference w) s v
   named_passed s u v d hops path reference w left goes passes cs stands =
       let first = subst (λ tests. Stands over s (tests ++ cs)) (followed hops path reference w left) stands in
@@ -166,19 +166,19 @@ module _ {L : Type 0} (over : Over L) where
       passes cs (subst (λ o. Stands over u (found_tests (hops - 1) path o w ++ cs)) (sym there.0) there.1)
 
   -- no reference is followed
-  pub none_passed : (s : State) (hops : ℕ) (path : List DocKey) (reference : Reference) (w : Scene) → hops ≡ 0 → Passes over (reference_tests hops path reference w) s s
+  pub none_passed : (s : JoinState) (hops : ℕ) (path : List DocKey) (reference : Reference) (w : Scene) → hops ≡ 0 → Passes over (reference_tests hops path reference w) s s
   none_passed s hops path reference w none cs stands = subst (λ n. Stands over s (reference_tests n path reference w ++ cs)) none stands
 
   -- the same under another name
-  pub passes_same : (tests more : List Came) (s u : State) → tests ≡ more → Passes over more s u → Passes over tests s u
+  pub passes_same : (tests more : List Came) (s u : JoinState) → tests ≡ more → Passes over more s u → Passes over tests s u
   passes_same tests more s u same passes cs stands = passes cs (subst (λ ts. Stands over s (ts ++ cs)) same stands)
 
   -- of a list, the first
-  pub one_passed : {X : Type 0} (f : X → List Came) (xs ys : List X) (x : X) (s u : State) (cs : List Came) → xs ≡ x ∷ ys → Passes over (f x) s u
+  pub one_passed : {X : Type 0} (f : X → List Came) (xs ys : List X) (x : X) (s u : JoinState) (cs : List Came) → xs ≡ x ∷ ys → Passes over (f x) s u
       → Stands over s (flat_map f xs ++ cs) → Stands over u (flat_map f ys ++ cs)
   one_passed f xs ys x s u cs at passes stands =
       passes (flat_map f ys ++ cs) (subst (Stands over s) (append_assoc (f x) (flat_map f ys) cs) (subst (λ zs. Stands over s (flat_map f zs ++ cs)) at stands))
 
   -- all of it are
-  pub all_passed : {X : Type 0} (f : X → List Came) (xs : List X) (s : State) (cs : List Came) → xs ≡ [] → Stands over s (flat_map f xs ++ cs) → Stands over s cs
+  pub all_passed : {X : Type 0} (f : X → List Came) (xs : List X) (s : JoinState) (cs : List Came) → xs ≡ [] → Stands over s (flat_map f xs ++ cs) → Stands over s cs
   all_passed f xs s cs none stands = subst (λ zs. Stands over s (flat_map f zs ++ cs)) none stands

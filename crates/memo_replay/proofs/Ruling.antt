@@ -37,7 +37,7 @@ use Rattle.ent_walk.proofs.Going.{values_to, values_to-next}
 use Rattle.memo_heard.specs.Heard.{Came, Gist, Heard, came_of_rule, condition, decides, decides_part, gist_of, heard, is_true, target}
 use Rattle.memo_heard.proofs.Gists.{behind, gist_append, heard_under, rule_heard}
 use Rattle.memo_replay.specs.declared.over.Over.{Over}
-use Rattle.memo_replay.specs.declared.state.State.{State}
+use Rattle.memo_replay.specs.declared.state.JoinState.{JoinState}
 use Rattle.memo_replay.specs.proofs_only.Heard.{HearsMore, HearsNothing, gist_in, joined}
 use Rattle.memo_replay.specs.proofs_only.Stands.{Goes, Joins, Passes, Stands, TakesPart, heard_matched, matched_came, questions_of}
 use Rattle.memo_replay.proofs.Hearing.{goes_nowhere, goes_same, goes_then, hears_before_nothing, joined_assoc, joined_none, nothing_itself}
@@ -73,7 +73,7 @@ module _ {L X : Type 0} (over : Over L) (algorithm : RuleAlg) (part : X → Part
   heard_of xs = gist_of (notes_of (seen_parts (stops algorithm) (map part xs)))
 
   -- the first i parts are gathered, none of them fixes the decision, and outcomes are read from the next on
-  pub record Proceeds (xs : List X) (i : ℕ) (start now : State) (g : Gathering) (cs : List Came) : Type 0 where
+  pub record Proceeds (xs : List X) (i : ℕ) (start now : JoinState) (g : Gathering) (cs : List Came) : Type 0 where
     pub seen : up_to_first (stops algorithm) (values (map part xs)) ≡ values_to part xs i ++ up_to_first (stops algorithm) (values (map part (drop i xs)))
     pub gathered : HasGathered algorithm g (values_to part xs i)
     pub hears : AreNumbers (questions_of over) start.asked
@@ -81,11 +81,11 @@ module _ {L X : Type 0} (over : Over L) (algorithm : RuleAlg) (part : X → Part
     pub stands : Stands over now (flat_map tests (drop i xs) ++ cs)
 
   -- no part yet
-  pub begins : (xs : List X) (s : State) (g : Gathering) (cs : List Came) → HasGathered algorithm g [] → Stands over s (flat_map tests xs ++ cs) → Proceeds xs 0 s s g cs
+  pub begins : (xs : List X) (s : JoinState) (g : Gathering) (cs : List Came) → HasGathered algorithm g [] → Stands over s (flat_map tests xs ++ cs) → Proceeds xs 0 s s g cs
   begins xs s g cs has stands = record { seen = refl; gathered = has; hears = λ within. (within, refl); stands = stands }
 
   -- one part more
-  module _ (xs : List X) (i : ℕ) (x : X) (start now next : State) (g h : Gathering) (progress : Progress) (cs : List Came)
+  module _ (xs : List X) (i : ℕ) (x : X) (start now next : JoinState) (g h : Gathering) (progress : Progress) (cs : List Came)
       (below : i < length xs) (at : x ≡ get_or xs i x) (so_far : Proceeds xs i start now g cs) (takes : TakesPart over (tests x) (heard (part x)) now next g h progress) where
     -- the parts behind it
     abbrev left : List X
@@ -134,7 +134,7 @@ module _ {L X : Type 0} (over : Over L) (algorithm : RuleAlg) (part : X → Part
         }
 
     -- that fixes it, where those behind it are passed
-    pub stopped : (after : State) (here : List DocKey) (result : Answer) → progress ≡ Stop
+    pub stopped : (after : JoinState) (here : List DocKey) (result : Answer) → progress ≡ Stop
         → Passes over (flat_map tests (drop (i + 1) xs)) next after → HearsNothing next after
         → ((js : List Answer) → HasGathered algorithm h js → result ≡ judged_by here algorithm js)
         → (result ≡ judgement_of here algorithm (values (map part xs))) × Goes over start after (heard_of xs) cs
@@ -157,7 +157,7 @@ module _ {L X : Type 0} (over : Over L) (algorithm : RuleAlg) (part : X → Part
         )
 
   -- no part fixes the decision
-  pub all_joined : (xs : List X) (i : ℕ) (start now : State) (g : Gathering) (cs : List Came) (path : List DocKey) (result : Answer)
+  pub all_joined : (xs : List X) (i : ℕ) (start now : JoinState) (g : Gathering) (cs : List Came) (path : List DocKey) (result : Answer)
       → length xs ≤ i → Proceeds xs i start now g cs
       → ((js : List Answer) → HasGathered algorithm g js → result ≡ judged_by path algorithm js)
       → (result ≡ judgement_of path algorithm (values (map part xs))) × Goes over start now (heard_of xs) cs
@@ -177,13 +177,13 @@ module _ {L X : Type 0} (over : Over L) (algorithm : RuleAlg) (part : X → Part
 
 module _ {L : Type 0} (over : Over L) where
   -- nothing more is tested
-  takes_nothing : (s : State) (old new : Gathering) (progress : Progress) (a : Answer) → Gathers old new a → Tells old a progress
+  takes_nothing : (s : JoinState) (old new : Gathering) (progress : Progress) (a : Answer) → Gathers old new a → Tells old a progress
       → TakesPart over [] (record { value = a; gist = gist_of [] }) s s old new progress
   takes_nothing s old new progress a gathers tells cs stands =
       (gathers, (tells, goes_nowhere over s s cs (nothing_itself s) (refl, refl) stands))
 
   -- what a test came to, and what is tested behind it
-  takes_behind : {V : Type 0} (x : Came) (rest more : List Came) (v w : V) (g : Gist) (h k : Heard Answer) (s t u : State)
+  takes_behind : {V : Type 0} (x : Came) (rest more : List Came) (v w : V) (g : Gist) (h k : Heard Answer) (s t u : JoinState)
       (old new : Gathering) (progress : Progress)
       → ((cs : List Came) → Stands over s (x ∷ cs) → (v ≡ w) × Goes over s t g cs)
       → (v ≡ w → (rest ≡ more) × (h ≡ behind g k))
@@ -203,7 +203,7 @@ module _ {L : Type 0} (over : Over L) where
       )
 
   -- what a rule decides
-  takes_decided : (h : Heard Answer) (a : Answer) (s t : State) (old new : Gathering) (progress : Progress)
+  takes_decided : (h : Heard Answer) (a : Answer) (s t : JoinState) (old new : Gathering) (progress : Progress)
       → ((cs : List Came) → Stands over s (decides h ∷ cs) → (a ≡ h.value) × Goes over s t h.gist cs)
       → Gathers old new a → Tells old a progress → TakesPart over (decides h ∷ []) h s t old new progress
   takes_decided h a s t old new progress reads gathers tells cs stands =
@@ -241,7 +241,7 @@ module _ {L : Type 0} (over : Over L) where
         rule_heard rule.id (target_part looks request rule.target) (condition_part looks request definitions rule.condition)
         (finished looks request definitions rule.given) here rule
 
-    module _ (s t u : State) (old new : Gathering) (progress : Progress) where
+    module _ (s t u : JoinState) (old new : Gathering) (progress : Progress) where
       -- what it comes to by what its target came to
       takes_target : (v : Targeted) (k : Heard Answer)
           → ((h : Heard Targeted) (cs : List Came) → Stands over s (target h ∷ cs) → (v ≡ h.value) × Goes over s t h.gist cs)
@@ -273,7 +273,7 @@ module _ {L : Type 0} (over : Over L) where
             ap (λ w. behind heard_condition.gist (own (decided here rule w))) (sym same) ∙ ap (behind heard_condition.gist) comes,
           )) takes
 
-    module _ (s t : State) (old new : Gathering) (progress : Progress) where
+    module _ (s t : JoinState) (old new : Gathering) (progress : Progress) where
       -- its target doesn't match
       pub rule_without_match : (v : Targeted) → v ≡ is.NoMatch
           → ((h : Heard Targeted) (cs : List Came) → Stands over s (target h ∷ cs) → (v ≡ h.value) × Goes over s t h.gist cs)
@@ -294,7 +294,7 @@ module _ {L : Type 0} (over : Over L) where
           (takes_nothing t old new progress (decided here rule (truth.Indeterminate status)) gathers tells)
 
       -- its target matches
-      pub rule_with_match : (u : State) (v : Targeted) → v ≡ is.Match
+      pub rule_with_match : (u : JoinState) (v : Targeted) → v ≡ is.Match
           → ((h : Heard Targeted) (cs : List Came) → Stands over s (target h ∷ cs) → (v ≡ h.value) × Goes over s t h.gist cs)
           → TakesPart over (matched_came looks request definitions here rule) (heard_matched looks request definitions here rule) t u old new progress
           → TakesPart over (came_of_rule looks request definitions here rule) (heard (rule_part looks request definitions here rule)) s u old new progress
@@ -322,7 +322,7 @@ module _ {L : Type 0} (over : Over L) where
           (takes_nothing t old new progress (decided here rule (truth.Indeterminate status)) gathers tells)
 
       -- its condition is True
-      pub matched_decided : (u : State) (v : Truth) (a : Answer) → v ≡ truth.True
+      pub matched_decided : (u : JoinState) (v : Truth) (a : Answer) → v ≡ truth.True
           → ((h : Heard Truth) (cs : List Came) → Stands over s (condition h ∷ cs) → (v ≡ h.value) × Goes over s t h.gist cs)
           → ((h : Heard Answer) (cs : List Came) → Stands over t (decides h ∷ cs) → (a ≡ h.value) × Goes over t u h.gist cs)
           → Gathers old new a → Tells old a progress
@@ -335,7 +335,7 @@ module _ {L : Type 0} (over : Over L) where
 -- ---- the rules of a policy
 
 -- at the path to the policy
-pub rules_joined : {L : Type 0} (over : Over L) (looks : Looks) (request : Request) (policy : Policy) (path here : List DocKey) (rules : List Rule) (s t : State) (a : Answer)
+pub rules_joined : {L : Type 0} (over : Over L) (looks : Looks) (request : Request) (policy : Policy) (path here : List DocKey) (rules : List Rule) (s t : JoinState) (a : Answer)
     → here ≡ path ++ policy_key policy ∷ [] → rules ≡ policy.rules
     → Joins over (flat_map (came_of_rule looks request policy.variables here) rules) (rules_combined looks request policy.variables here policy.algorithm rules) s t a
     → Joins over (flat_map (came_of_rule looks request policy.variables (path ++ policy_key policy ∷ [])) policy.rules) (policy_rules looks request path policy) s t a

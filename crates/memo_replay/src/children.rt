@@ -12,7 +12,7 @@ ghost use Rattle.memo_plan.specs.proofs_only.Entries.{reference_tests, set_tests
 ghost use Rattle.memo_replay.specs.proofs_only.Stands.{Joins, looks_in, request_in, scene_in};
 
 use crate::over::{NotJoined, Over};
-use crate::state::State;
+use crate::state::JoinState;
 use ent_combine::{PolicyAlg, Progress, RuleAlg};
 use ent_policy::{Child, Kind, PolicySet, Reference, Tree};
 use ent_request::{Answer, LookUps};
@@ -26,7 +26,7 @@ impl<L: LookUps> Over<'_, L> {
     fn child(
         &self,
         fuel: usize,
-        state: &mut State,
+        state: &mut JoinState,
         hops: usize,
         path: &Path<'_>,
         child: &Child,
@@ -52,7 +52,7 @@ impl<L: LookUps> Over<'_, L> {
     pub(crate) fn reference(
         &self,
         fuel: usize,
-        state: &mut State,
+        state: &mut JoinState,
         hops: usize,
         path: &Path<'_>,
         reference: &Reference,
@@ -82,7 +82,7 @@ impl<L: LookUps> Over<'_, L> {
     fn tree(
         &self,
         fuel: usize,
-        state: &mut State,
+        state: &mut JoinState,
         hops: usize,
         path: &Path<'_>,
         tree: &Tree,
@@ -104,7 +104,7 @@ impl<L: LookUps> Over<'_, L> {
     fn set(
         &self,
         fuel: usize,
-        state: &mut State,
+        state: &mut JoinState,
         hops: usize,
         path: &Path<'_>,
         set: &PolicySet,
@@ -134,7 +134,7 @@ impl<L: LookUps> Over<'_, L> {
     fn children_of(
         &self,
         fuel: usize,
-        state: &mut State,
+        state: &mut JoinState,
         hops: usize,
         path: &Path<'_>,
         set: &PolicySet,
@@ -165,7 +165,7 @@ impl<L: LookUps> Over<'_, L> {
     fn children(
         &self,
         fuel: usize,
-        state: &mut State,
+        state: &mut JoinState,
         hops: usize,
         path: &Path<'_>,
         algorithm: RuleAlg,

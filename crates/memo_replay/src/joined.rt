@@ -9,10 +9,10 @@ ghost use Rattle.memo_replay.specs.Joined.{IsJoined};
 ghost use Rattle.memo_replay.specs.proofs_only.Stands.{looks_in, questions_of, request_in};
 
 use crate::over::{NotJoined, Over};
-use crate::state::{Pad, State};
+use crate::state::{JoinState, Pad};
 use ent_policy::Reference;
 use ent_request::{Answer, LookUps};
-use ent_trace::{Marked, Notes, Path};
+use ent_trace::{MarkedNumbers, Notes, Path};
 use ent_values::Items;
 use memo_bags::Scene;
 use memo_plan::Entry;
@@ -63,10 +63,10 @@ pub fn join<L: LookUps>(
         tests,
         way,
     };
-    let mut state = State {
+    let mut state = JoinState {
         place: 0,
         at: 0,
-        asked: mem::replace(&mut pad.asked, Marked::new(scene.alloc)),
+        asked: mem::replace(&mut pad.asked, MarkedNumbers::new(scene.alloc)),
         failed: false,
         notes: mem::replace(&mut pad.notes, Notes::unasked(scene.alloc)),
         likely: mem::replace(&mut pad.likely, Vec::new(scene.alloc)),
@@ -85,7 +85,7 @@ pub fn join<L: LookUps>(
 
 impl<L: LookUps> Over<'_, L> {
     // The whole answer.
-    fn whole(&self, state: &mut State, root: &Reference) -> Result<Joined, NotJoined>
+    fn whole(&self, state: &mut JoinState, root: &Reference) -> Result<Joined, NotJoined>
         requires root { (looks_in L.looks self.now).root ≡ Some root.now }
         requires nothing { state.old.asked ≡ [] }
         requires fine { state.old.failed ≡ false }

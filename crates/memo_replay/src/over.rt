@@ -13,15 +13,15 @@ ghost use Rattle.memo_tests.specs.Tested.{came_of};
 ghost use Rattle.memo_replay.specs.proofs_only.Heard.{HearsMore, HearsNothing, StaysThere, gist_by};
 ghost use Rattle.memo_replay.specs.proofs_only.Stands.{Goes, IsNext, Stands, questions_of};
 
-use crate::state::State;
+use crate::state::JoinState;
 use ent_policy::{Reference, Tree};
 use ent_request::{Answer, LookUps, Question, same_reference};
 use ent_walk::{Targeted, Truth};
 use memo_answers::goes_on;
 use memo_bags::Scene;
 use memo_heard::Tested;
-use memo_plan::{Entry, Item, Task};
-use memo_tests::{Outcome, Test};
+use memo_plan::{Entry, Item, TestTask};
+use memo_tests::{Test, TestOutcome};
 use std::alloc::AllocError;
 
 /// Why an answer isn't joined.
@@ -57,13 +57,13 @@ pub(crate) struct Over<'a, L> {
 /// An outcome, and how many entries are passed behind it.
 #[derive(Clone, Copy)]
 struct Next<'a> {
-    outcome: &'a Outcome,
+    outcome: &'a TestOutcome,
     passed: usize,
 }
 
 impl<'a, L: LookUps> Over<'a, L> {
     // Gives the outcome of the test that stands next, and goes behind it.
-    pub(crate) fn pass(&self, state: &mut State) -> Result<&'a Outcome, NotJoined>
+    pub(crate) fn pass(&self, state: &mut JoinState) -> Result<&'a TestOutcome, NotJoined>
         ensures next { IfOk result (λ o. (c : Came) (cs : List Came) → Stands self.now state.old (c ∷ cs)
             → (c ≡ came_of (questions_of self.now) o.now)
             × (AreNumbers (questions_of self.now) o.now.asked × Stands self.now state.new cs)) }
@@ -80,7 +80,7 @@ impl<'a, L: LookUps> Over<'a, L> {
     }
 
     // The same, without going behind it.
-    fn next(&self, state: &State) -> Option<Next<'a>>
+    fn next(&self, state: &JoinState) -> Option<Next<'a>>
         ensures { IfSome result (λ n. (c : Came) (cs : List Came) → Stands self.now state.now (c ∷ cs)
             → IsNext self.now state.now.place state.now.at c cs n) }
     {
@@ -97,7 +97,7 @@ impl<'a, L: LookUps> Over<'a, L> {
     }
 
     // The outcome of the test that stands next, of which is heard.
-    fn outcome(&self, state: &mut State) -> Result<&'a Outcome, NotJoined>
+    fn outcome(&self, state: &mut JoinState) -> Result<&'a TestOutcome, NotJoined>
         ensures { IfOk result (λ o. (c : Came) (cs : List Came) → Stands self.now state.old (c ∷ cs)
             → (c ≡ came_of (questions_of self.now) o.now)
             × Goes self.now state.old state.new (gist_by (questions_of self.now) o.now) cs) }
@@ -108,7 +108,7 @@ impl<'a, L: LookUps> Over<'a, L> {
     }
 
     // What the target came to that stands next.
-    pub(crate) fn target(&self, state: &mut State) -> Result<Targeted, NotJoined>
+    pub(crate) fn target(&self, state: &mut JoinState) -> Result<Targeted, NotJoined>
         ensures { IfOk result (λ v. (t : Heard Targeted) (cs : List Came)
             → Stands self.now state.old (target t ∷ cs)
             → (v ≡ t.value) × Goes self.now state.old state.new t.gist cs) }
@@ -120,7 +120,7 @@ impl<'a, L: LookUps> Over<'a, L> {
     }
 
     // What the condition came to that stands next.
-    pub(crate) fn condition(&self, state: &mut State) -> Result<Truth, NotJoined>
+    pub(crate) fn condition(&self, state: &mut JoinState) -> Result<Truth, NotJoined>
         ensures { IfOk result (λ v. (t : Heard Truth) (cs : List Came)
             → Stands self.now state.old (condition t ∷ cs)
             → (v ≡ t.value) × Goes self.now state.old state.new t.gist cs) }
@@ -132,7 +132,7 @@ impl<'a, L: LookUps> Over<'a, L> {
     }
 
     // What the rule came to that stands next.
-    pub(crate) fn decided(&self, state: &mut State) -> Result<Answer, NotJoined>
+    pub(crate) fn decided(&self, state: &mut JoinState) -> Result<Answer, NotJoined>
         ensures { IfOk result (λ a. (h : Heard Answer) (cs : List Came)
             → Stands self.now state.old (decides h ∷ cs)
             → (a ≡ h.value) × Goes self.now state.old state.new h.gist cs) }
@@ -144,7 +144,7 @@ impl<'a, L: LookUps> Over<'a, L> {
     }
 
     // Goes behind the entry that says that an element gives nothing itself.
-    pub(crate) fn given(&self, state: &mut State) -> Result<(), NotJoined>
+    pub(crate) fn given(&self, state: &mut JoinState) -> Result<(), NotJoined>
         ensures given { OnOk result ((own : Answer → Heard Answer) (cs : List Came)
             → Stands self.now state.old (gives own ∷ cs)
             → (own ≡ nothing_given) × Stands self.now state.new cs) }
@@ -163,7 +163,7 @@ impl<'a, L: LookUps> Over<'a, L> {
     }
 
     // Gives the document of the reference that stands next, and goes behind it.
-    pub(crate) fn document(&self, state: &mut State) -> Result<&'a Option<Tree>, NotJoined>
+    pub(crate) fn document(&self, state: &mut JoinState) -> Result<&'a Option<Tree>, NotJoined>
         ensures named { IfOk result (λ d. (o : Option Tree) (cs : List Came)
             → Stands self.now state.old (named o ∷ cs) → (d.now ≡ o) × Stands self.now state.new cs) }
         ensures heard { HearsNothing state.old state.new }
@@ -183,7 +183,7 @@ impl<'a, L: LookUps> Over<'a, L> {
     // The same of this reference, whose question is heard.
     pub(crate) fn named(
         &self,
-        state: &mut State,
+        state: &mut JoinState,
         reference: &Reference,
     ) -> Result<&'a Option<Tree>, NotJoined>
         ensures { IfOk result (λ d. (o : Option Tree) (cs : List Came)
@@ -196,7 +196,7 @@ impl<'a, L: LookUps> Over<'a, L> {
     }
 
     // The number of the question of a reference, which stands next. It has none before an evaluation asked it.
-    fn number_of(&self, state: &mut State, reference: &Reference) -> Result<u32, NotJoined>
+    fn number_of(&self, state: &mut JoinState, reference: &Reference) -> Result<u32, NotJoined>
         ensures number { IfOk result (λ n.
             slice_get (questions_of self.now) n ≡ Some (Ref reference.now)) }
         ensures heard { HearsNothing state.old state.new }
@@ -214,7 +214,7 @@ impl<'a, L: LookUps> Over<'a, L> {
     }
 
     // The same, if it is the likely one.
-    fn likely(&self, state: &State, reference: &Reference) -> Option<u32>
+    fn likely(&self, state: &JoinState, reference: &Reference) -> Option<u32>
         ensures { IfSome result (λ n. slice_get (questions_of self.now) n ≡ Some (Ref reference.now)) }
     {
         let number = *state.likely.get(state.place)?;
@@ -231,7 +231,7 @@ impl<'a, L: LookUps> Over<'a, L> {
     }
 
     // Hears that the root is asked for.
-    pub(crate) fn ask_root(&self, state: &mut State) -> Result<(), NotJoined>
+    pub(crate) fn ask_root(&self, state: &mut JoinState) -> Result<(), NotJoined>
         ensures distinct { OnOk result (IsDistinct same_question (questions_of self.now)) }
         ensures heard { OnOk result
             (HearsMore (questions_of self.now) (gist_of (asks Root ∷ [])) state.old state.new) }
@@ -248,7 +248,7 @@ impl<'a, L: LookUps> Over<'a, L> {
 }
 
 // How many entries are passed behind a test, of which so many stand below it.
-fn passed(task: &Task, below: usize, outcome: &Outcome) -> usize
+fn passed(task: &TestTask, below: usize, outcome: &TestOutcome) -> usize
     ensures { (g : Gist) → result
         ≡ (if task_goes_on task.now (came_by outcome.now.tested g) then 0 else below) }
 {

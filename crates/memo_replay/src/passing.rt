@@ -18,7 +18,7 @@ ghost use Rattle.memo_replay.specs.proofs_only.Heard.{HearsNothing};
 ghost use Rattle.memo_replay.specs.proofs_only.Stands.{Passes};
 
 use crate::over::{NotJoined, Over};
-use crate::state::State;
+use crate::state::JoinState;
 use ent_policy::{Child, Tree};
 use ent_request::LookUps;
 use ent_walk::{Targeted, Truth};
@@ -26,7 +26,7 @@ use memo_heard::Tested;
 
 impl<L: LookUps> Over<'_, L> {
     // Passes so many rules.
-    pub(crate) fn pass_rules(&self, state: &mut State, count: usize) -> Result<(), NotJoined>
+    pub(crate) fn pass_rules(&self, state: &mut JoinState, count: usize) -> Result<(), NotJoined>
         ensures passes { OnOk result ((w : Scene) (definitions : List VariableDefinition)
             (here : List DocKey) (rules : List Rule) → length rules ≡ count
             → Passes self.now (flat_map (came_of_rule w.looks w.request definitions here) rules)
@@ -40,7 +40,7 @@ impl<L: LookUps> Over<'_, L> {
     }
 
     // Passes a rule.
-    fn pass_rule(&self, state: &mut State) -> Result<(), NotJoined>
+    fn pass_rule(&self, state: &mut JoinState) -> Result<(), NotJoined>
         ensures passes { OnOk result ((w : Scene) (definitions : List VariableDefinition)
             (here : List DocKey) (r : Rule)
             → Passes self.now (came_of_rule w.looks w.request definitions here r)
@@ -59,7 +59,7 @@ impl<L: LookUps> Over<'_, L> {
     pub(crate) fn pass_children(
         &self,
         fuel: usize,
-        state: &mut State,
+        state: &mut JoinState,
         hops: usize,
         children: &[Child],
         first: usize,
@@ -80,7 +80,7 @@ impl<L: LookUps> Over<'_, L> {
     fn pass_child(
         &self,
         fuel: usize,
-        state: &mut State,
+        state: &mut JoinState,
         hops: usize,
         child: &Child,
     ) -> Result<(), NotJoined>
@@ -99,7 +99,7 @@ impl<L: LookUps> Over<'_, L> {
     }
 
     // Passes a policy of so many rules.
-    fn pass_policy(&self, state: &mut State, rules: usize) -> Result<(), NotJoined>
+    fn pass_policy(&self, state: &mut JoinState, rules: usize) -> Result<(), NotJoined>
         ensures passes { OnOk result ((w : Scene) (path : List DocKey) (p : Policy)
             → length p.rules ≡ rules
             → Passes self.now (policy_tests path p w) state.old state.new) }
@@ -117,7 +117,7 @@ impl<L: LookUps> Over<'_, L> {
     fn pass_set(
         &self,
         fuel: usize,
-        state: &mut State,
+        state: &mut JoinState,
         hops: usize,
         children: &[Child],
     ) -> Result<(), NotJoined>
@@ -135,7 +135,12 @@ impl<L: LookUps> Over<'_, L> {
 
     // Passes a reference.
     #[cycle(passing)]
-    fn pass_reference(&self, fuel: usize, state: &mut State, hops: usize) -> Result<(), NotJoined>
+    fn pass_reference(
+        &self,
+        fuel: usize,
+        state: &mut JoinState,
+        hops: usize,
+    ) -> Result<(), NotJoined>
         ensures passes { OnOk result ((w : Scene) (path : List DocKey) (reference : Reference)
             → Passes self.now (reference_tests hops path reference w) state.old state.new) }
         ensures heard { HearsNothing state.old state.new }
@@ -155,7 +160,7 @@ impl<L: LookUps> Over<'_, L> {
     fn pass_tree(
         &self,
         fuel: usize,
-        state: &mut State,
+        state: &mut JoinState,
         hops: usize,
         tree: &Tree,
     ) -> Result<(), NotJoined>

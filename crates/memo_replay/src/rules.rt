@@ -16,7 +16,7 @@ ghost use Rattle.memo_replay.specs.proofs_only.Stands.{Joins, TakesPart, heard_m
 ghost use Rattle.memo_replay.specs.proofs_only.Stands.{matched_came, request_in, scene_in};
 
 use crate::over::{NotJoined, Over};
-use crate::state::State;
+use crate::state::JoinState;
 use ent_combine::{Progress, RuleAlg};
 use ent_policy::{Kind, Policy, Rule};
 use ent_request::{Answer, LookUps, Status};
@@ -27,7 +27,7 @@ impl<L: LookUps> Over<'_, L> {
     // A policy, where the path leads from the root to what it stands in.
     pub(crate) fn policy(
         &self,
-        state: &mut State,
+        state: &mut JoinState,
         path: &Path<'_>,
         policy: &Policy,
     ) -> Result<Option<Answer>, NotJoined>
@@ -54,7 +54,7 @@ impl<L: LookUps> Over<'_, L> {
     // The rules of a policy.
     fn rules_of(
         &self,
-        state: &mut State,
+        state: &mut JoinState,
         path: &Path<'_>,
         policy: &Policy,
     ) -> Result<Option<Answer>, NotJoined>
@@ -77,7 +77,7 @@ impl<L: LookUps> Over<'_, L> {
     // Rules, up to the first that fixes the decision; those behind it are passed.
     fn rules(
         &self,
-        state: &mut State,
+        state: &mut JoinState,
         path: &Path<'_>,
         algorithm: RuleAlg,
         rules: &[Rule],
@@ -102,7 +102,7 @@ impl<L: LookUps> Over<'_, L> {
     // One rule more, which is gathered, and whether it fixes the decision.
     fn next_rule(
         &self,
-        state: &mut State,
+        state: &mut JoinState,
         gathering: &mut Gathering,
         rule: &Rule,
     ) -> Result<Progress, NotJoined>
@@ -124,7 +124,7 @@ impl<L: LookUps> Over<'_, L> {
     // The same behind its target, which matches.
     fn next_matched(
         &self,
-        state: &mut State,
+        state: &mut JoinState,
         gathering: &mut Gathering,
         rule: &Rule,
     ) -> Result<Progress, NotJoined>

@@ -8,15 +8,15 @@ ghost use Rattle.ent_request.specs.declared.question.Question.{Question};
 ghost use Rattle.memo_heard.specs.Heard.{gist_of};
 ghost use Rattle.memo_replay.specs.proofs_only.Heard.{HearsMore, StaysThere, failing, gist_by};
 
-use ent_trace::{Marked, Notes};
-use memo_tests::Outcome;
+use ent_trace::{MarkedNumbers, Notes};
+use memo_tests::TestOutcome;
 use std::alloc::{AllocError, Global};
 use std::marker::Model;
 
 /// What serves one answer after another. What is joined never depends on it, so that it has no meaning of its own.
 #[derive(Drop)]
 pub struct Pad {
-    pub(crate) asked: Marked,
+    pub(crate) asked: MarkedNumbers,
     pub(crate) notes: Notes,
     pub(crate) likely: Vec<u32>,
 }
@@ -33,7 +33,7 @@ impl Pad {
     /// Its contract leaves open: all of it: a pad holds nothing that a call tells.
     pub fn new(alloc: Global) -> Pad {
         Pad {
-            asked: Marked::new(alloc),
+            asked: MarkedNumbers::new(alloc),
             notes: Notes::unasked(alloc),
             likely: Vec::new(alloc),
         }
@@ -44,18 +44,18 @@ impl Pad {
 /// the numbers of questions, each once, and whether something failed. Beside them, for each place, the number that
 /// the question of its reference likely has.
 #[derive(Drop)]
-pub(crate) struct State {
+pub(crate) struct JoinState {
     pub(crate) place: usize,
     pub(crate) at: usize,
-    pub(crate) asked: Marked,
+    pub(crate) asked: MarkedNumbers,
     pub(crate) failed: bool,
     pub(crate) notes: Notes,
     pub(crate) likely: Vec<u32>,
 }
 
-impl State {
+impl JoinState {
     // Hears of an outcome.
-    pub(crate) fn hear(&mut self, outcome: &Outcome) -> Result<(), AllocError>
+    pub(crate) fn hear(&mut self, outcome: &TestOutcome) -> Result<(), AllocError>
         ensures heard { OnOk result ((questions : List Question) → IsDistinct same_question questions
             → AreNumbers questions outcome.now.asked
             → HearsMore questions (gist_by questions outcome.now) self.old self.new) }

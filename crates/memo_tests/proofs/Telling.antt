@@ -19,7 +19,7 @@ use Rattle.memo_bags.specs.proofs_only.Led.{TellsEnd}
 use Rattle.memo_bags.specs.proofs_only.Ready.{Begins, TellsAttributes}
 use Rattle.memo_bags.proofs.Growing.{starts_get, starts_itself}
 use Rattle.memo_bags.proofs.Learning.{about_all, about_more, numbers_more, turns_all, turns_more, way_back, way_finds}
-use Rattle.memo_tests.specs.declared.outcome.Outcome.{Outcome}
+use Rattle.memo_tests.specs.declared.outcome.TestOutcome.{TestOutcome}
 use Rattle.memo_heard.specs.CameBy.{came_by}
 use Rattle.memo_heard.specs.declared.tested.Tested.{Tested}
 use Rattle.memo_heard.specs.declared.tested.Tested.TheVariants as tested
@@ -38,7 +38,7 @@ test_none at questions bags test x nothing = record {
 
 -- a test stays so as questions and bags get numbers
 module _ (at : Looks) (questions more : List Question) (bags bigger : List Contents) (first : Begins more questions) (second : Begins bigger bags) (test : Looks → Request → Came) where
-  tells_more : (way : Way) (o : Outcome) → Tells at questions bags test way o → Tells at more bigger test way o
+  tells_more : (way : Way) (o : TestOutcome) → Tells at questions bags test way o → Tells at more bigger test way o
   tells_more way o tells =
       let numbers = numbers_more at questions more bags bigger first second o.asked tells.within in
       record {
@@ -77,7 +77,7 @@ test_at at s questions bags test x same is = record {
 
 module _ (at : Looks) (questions : List Question) (bags : List Contents) (test : Looks → Request → Came) (old new : Test) (begins : Begins new.outcomes.items old.outcomes.items) (is : IsTest at questions bags test old) where
   -- a way that led to an outcome still tells it
-  told_still : (way : Way) (n : ℕ) → Leads old.tree.nodes.items way n → (o : Outcome) × ((slice_get new.outcomes.items n ≡ Some o) × Tells at questions bags test way o)
+  told_still : (way : Way) (n : ℕ) → Leads old.tree.nodes.items way n → (o : TestOutcome) × ((slice_get new.outcomes.items n ≡ Some o) × Tells at questions bags test way o)
   told_still way n led =
       let before = is.told way n led in
       (before.0, (starts_get old.outcomes.items new.outcomes.items n before.0 begins before.1.0, before.1.1))
@@ -87,13 +87,13 @@ module _ (at : Looks) (questions : List Question) (bags : List Contents) (test :
   test_same leads asks = record { asks = asks; told = λ way n led. told_still way n ((leads way n).1 led) }
 
   -- one way more, to an outcome that it tells
-  pub test_more : (nodes : Nodes) (way : Way) (n : ℕ) (o : Outcome) → LeadsAsBefore old.tree.nodes.items nodes → AsksAbout questions nodes → Ends nodes new.tree.nodes.items way n
+  pub test_more : (nodes : Nodes) (way : Way) (n : ℕ) (o : TestOutcome) → LeadsAsBefore old.tree.nodes.items nodes → AsksAbout questions nodes → Ends nodes new.tree.nodes.items way n
       → slice_get new.outcomes.items n ≡ Some o → Tells at questions bags test way o → IsTest at questions bags test new
   test_more nodes way n o leads asks ends there tells = record {
     asks = λ m k key. asks m k (sym (ends.asks m) ∙ key);
     told = λ w m led. by w m (ends.others w m led);
   } where
-    by : (w : Way) (m : ℕ) → Leads nodes w m ⊎ ((w ≡ way) × (m ≡ n)) → (p : Outcome) × ((slice_get new.outcomes.items m ≡ Some p) × Tells at questions bags test w p)
+    by : (w : Way) (m : ℕ) → Leads nodes w m ⊎ ((w ≡ way) × (m ≡ n)) → (p : TestOutcome) × ((slice_get new.outcomes.items m ≡ Some p) × Tells at questions bags test w p)
     by w m (inl led) = told_still w m ((leads w m).1 led)
     by w m (inr this) = (o, (ap (slice_get new.outcomes.items) this.1 ∙ there, subst (λ v. Tells at questions bags test v o) (sym this.0) tells))
 
@@ -124,7 +124,7 @@ all_both : (P Q R : Question → Type 0) → ((x : Question) → P x → Q x →
 all_both P Q R both [] first second = tt
 all_both P Q R both (x ∷ xs) first second = (both x first.0 second.0, all_both P Q R both xs first.1 second.1)
 
-asked_of : (questions : List Question) (o : Outcome) → asked_by (came_of questions o) ≡ at_numbers questions o.asked
+asked_of : (questions : List Question) (o : TestOutcome) → asked_by (came_of questions o) ≡ at_numbers questions o.asked
 asked_of questions o = by o.tested where
   by : (t : Tested) → asked_by (came_by t (record { questions = at_numbers questions o.asked; failed = o.failed })) ≡ at_numbers questions o.asked
   by (tested.Target t) = refl
@@ -132,7 +132,7 @@ asked_of questions o = by o.tested where
   by (tested.Decides a) = refl
 
 -- what was found for the questions of a test tells what it came to
-pub tells_found : (looks : Looks) (questions : List Question) (bags : List Contents) (request : Request) (test : Looks → Request → Came) (o : Outcome) (found : List Finding)
+pub tells_found : (looks : Looks) (questions : List Question) (bags : List Contents) (request : Request) (test : Looks → Request → Came) (o : TestOutcome) (found : List Finding)
     → Rests test → test looks request ≡ came_of questions o → AreNumbers questions o.asked → AllByRecursion (IsFinding questions bags) found → TellsAttributes looks questions bags request o.asked found
     → Tells looks questions bags test (way_of found) o
 tells_found looks questions bags request test o found rests came within are attributes = record {
@@ -149,13 +149,13 @@ tells_found looks questions bags request test o found rests came within are attr
 }
 
 -- where bags alone got numbers
-pub learns_nothing : (looks : Looks) (questions : List Question) (old new : List Contents) (request : Request) (o : Outcome) (before after : Test) → Begins new old
+pub learns_nothing : (looks : Looks) (questions : List Question) (old new : List Contents) (request : Request) (o : TestOutcome) (before after : Test) → Begins new old
     → Begins after.outcomes.items before.outcomes.items → after.tree.nodes.items ≡ before.tree.nodes.items → Learns looks questions old new request o before after
 learns_nothing looks questions old new request o before after bags begins tree test rests came is =
     test_kept looks questions new test before after begins tree (test_grows looks questions questions old new (starts_itself questions questions refl) bags test before is)
 
 -- where the way of what was found is led to the outcome
-pub learns_found : (looks : Looks) (questions : List Question) (old new : List Contents) (request : Request) (o : Outcome) (before mid after : Test) (found : List Finding) (n : ℕ) → Begins new old
+pub learns_found : (looks : Looks) (questions : List Question) (old new : List Contents) (request : Request) (o : TestOutcome) (before mid after : Test) (found : List Finding) (n : ℕ) → Begins new old
     → Begins mid.outcomes.items before.outcomes.items → mid.tree.nodes.items ≡ before.tree.nodes.items → slice_get mid.outcomes.items n ≡ Some o → AreNumbers questions o.asked
     → AllByRecursion (IsFinding questions new) found → TellsAttributes looks questions new request o.asked found → LeadsTo found n mid after → Learns looks questions old new request o before after
 learns_found looks questions old new request o before mid after found n bags begins tree there within are attributes leads test rests came is =

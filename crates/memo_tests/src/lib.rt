@@ -6,5 +6,5 @@ mod outcome;
 mod test;
 
 pub use law::tests_rest_on_what_they_ask;
-pub use outcome::Outcome;
+pub use outcome::TestOutcome;
 pub use test::Test;

@@ -11,15 +11,15 @@ use memo_heard::Tested;
 /// What a test comes to, the numbers of the questions that are asked for it, each once, and whether something in it
 /// failed by itself.
 #[derive(Drop)]
-pub struct Outcome {
+pub struct TestOutcome {
     pub tested: Tested,
     pub asked: Items<u32>,
     pub failed: bool,
 }
 
-impl Outcome {
+impl TestOutcome {
     // Whether two are found to be equal.
-    pub(crate) fn is(&self, other: &Outcome) -> bool
+    pub(crate) fn is(&self, other: &TestOutcome) -> bool
         ensures { IsTrue result → self.now ≡ other.now }
     {
         self.failed == other.failed

@@ -13,17 +13,17 @@ ghost use Rattle.memo_heard.specs.Heard.{Came};
 ghost use Rattle.memo_tests.specs.Tested.{ComesTo, IsTest, Learns};
 ghost use Rattle.memo_tests.specs.proofs_only.Leading.{LeadsTo};
 
-use crate::outcome::Outcome;
+use crate::outcome::TestOutcome;
 use ent_request::LookUps;
 use memo_bags::{About, Finding, Findings, Scene, findings_of, make_way, seek};
-use memo_trie::Tree;
+use memo_trie::Trie;
 use std::alloc::{AllocError, Global};
 
 /// The outcomes of a test, each of which stands at the ends of the ways of what was found for it.
 #[derive(Drop)]
 pub struct Test {
-    pub outcomes: Vec<Outcome>,
-    pub tree: Tree<About, usize>,
+    pub outcomes: Vec<TestOutcome>,
+    pub tree: Trie<About, usize>,
 }
 
 impl Test {
@@ -36,7 +36,7 @@ impl Test {
     {
         Test {
             outcomes: Vec::new(alloc),
-            tree: Tree::new(alloc),
+            tree: Trie::new(alloc),
         }
     }
 
@@ -65,7 +65,7 @@ impl Test {
         &mut self,
         scene: &Scene<'_, L>,
         findings: &mut Findings,
-        outcome: Outcome,
+        outcome: TestOutcome,
     ) -> Result<usize, AllocError>
         requires ready { AreReady (L.looks scene.now.held.now) scene.now findings.old }
         requires within { AreNumbers scene.now.questions.now outcome.asked }
@@ -82,7 +82,7 @@ impl Test {
     }
 
     // The number of an outcome, which is put behind the others if it isn't there.
-    fn number_of(&mut self, outcome: Outcome) -> Result<usize, AllocError>
+    fn number_of(&mut self, outcome: TestOutcome) -> Result<usize, AllocError>
         ensures there { IfOk result (λ n. slice_get self.new.outcomes.items n ≡ Some outcome) }
         ensures begins { Begins self.new.outcomes.items self.old.outcomes.items }
         ensures tree { self.new.tree.nodes.items ≡ self.old.tree.nodes.items }
@@ -111,7 +111,7 @@ impl Test {
 }
 
 // The number of an outcome among others, if it is found there.
-fn number_among(outcomes: &[Outcome], outcome: &Outcome) -> Option<usize>
+fn number_among(outcomes: &[TestOutcome], outcome: &TestOutcome) -> Option<usize>
     ensures { IfSome result (λ n. slice_get outcomes.now n ≡ Some outcome.now) }
 {
     for place in 0..outcomes.len() {

@@ -7,4 +7,4 @@ mod tree;
 
 pub use fork::Fork;
 pub use node::Node;
-pub use tree::Tree;
+pub use tree::Trie;

@@ -16,19 +16,19 @@ const MOST_BEFORE: usize = 4_294_967_295;
 /// A tree of ways: at each place a question, with a branch for each number that it found, the end of a way, or nothing
 /// yet. The first place is where each way begins.
 #[derive(Drop)]
-pub struct Tree<K, L> {
+pub struct Trie<K, L> {
     pub nodes: Vec<Node<K, L>>,
     pub ghost tree: { IsTree nodes.items },
 }
 
-impl<K, L> Tree<K, L> {
+impl<K, L> Trie<K, L> {
     /// A tree without places, for which nothing is allocated.
     ///
     /// Its contract is an equation.
-    pub fn new(alloc: Global) -> Tree<K, L>
+    pub fn new(alloc: Global) -> Trie<K, L>
         ensures { result.nodes.items ≡ [] }
     {
-        Tree {
+        Trie {
             nodes: Vec::new(alloc),
         }
     }
@@ -53,7 +53,7 @@ impl<K, L> Tree<K, L> {
     }
 }
 
-impl<K: Drop, L: Drop> Tree<K, L> {
+impl<K: Drop, L: Drop> Trie<K, L> {
     /// Makes the first place, if there is none: nothing stands there then.
     ///
     /// Its contract leaves open: how places stand in the list, as long as the same ways lead to the same ends.

@@ -8,8 +8,8 @@ use Rattle.ent_json.specs.Objects.{list_at, text_at}
 use Rattle.script_matching.specs.Matching.{fits}
 use Rattle.script_compare.specs.Changes.{decision_of, is_nothing}
 use Rattle.script_compare.specs.Tables.{listed}
-use Rattle.script_compare.specs.declared.column.Column.{Column}
-use Rattle.script_compare.specs.declared.column.Column.TheVariants.{Person, Action, Resource, Before, After, RulesBefore, RulesAfter, Also}
+use Rattle.script_compare.specs.declared.column.ChangeColumn.{ChangeColumn}
+use Rattle.script_compare.specs.declared.column.ChangeColumn.TheVariants.{Person, Action, Resource, Before, After, RulesBefore, RulesAfter, Also}
 use Rattle.script_compare.specs.declared.showing.Widths.{Widths}
 
 -- ---- what is told of a change
@@ -71,7 +71,7 @@ also_between _ _ = []
 -- ---- columns
 
 -- what stands above a column
-abbrev pub title : Column → List ℕ
+abbrev pub title : ChangeColumn → List ℕ
 title Person = codes "person"
 title Action = codes "action"
 title Resource = codes "resource"
@@ -82,7 +82,7 @@ title RulesAfter = codes "rules after"
 title Also = codes "also another"
 
 -- what stands in a column of the row of a change
-abbrev pub cell_text : Column → Data → List ℕ
+abbrev pub cell_text : ChangeColumn → Data → List ℕ
 cell_text Person changed = name_at (codes "person") changed
 cell_text Action changed = name_at (codes "action") changed
 cell_text Resource changed = name_at (codes "resource") changed
@@ -93,7 +93,7 @@ cell_text RulesAfter changed = rules_of (get (codes "after") changed)
 cell_text Also changed = also_between (get (codes "before") changed) (get (codes "after") changed)
 
 -- what stands in a column of the row of a change, or of the first row
-unfoldable pub text_in : Column → Option Data → List ℕ
+unfoldable pub text_in : ChangeColumn → Option Data → List ℕ
 text_in column None = title column
 text_in column (Some changed) = cell_text column changed
 
@@ -116,12 +116,12 @@ unfoldable pub padded : ℕ → List ℕ → List ℕ
 padded wanted text = map shown_byte text ++ replicate (wanted - width text) 32
 
 -- the greatest of a width and those of a column's texts
-abbrev pub widest : Column → ℕ → List Data → ℕ
+abbrev pub widest : ChangeColumn → ℕ → List Data → ℕ
 widest column least [] = least
 widest column least (changed ∷ changes) = widest column (max least (width (text_in column (Some changed)))) changes
 
 -- how wide a column is
-abbrev pub column_width : List Data → List Data → Column → ℕ
+abbrev pub column_width : List Data → List Data → ChangeColumn → ℕ
 column_width decisions reasons column = widest column (widest column (width (text_in column None)) decisions) reasons
 
 -- how wide each column is, but the last
@@ -137,7 +137,7 @@ widths_of decisions reasons = record {
 }
 
 -- a column of a row, and two spaces
-unfoldable pub in_column : Column → ℕ → Option Data → List ℕ
+unfoldable pub in_column : ChangeColumn → ℕ → Option Data → List ℕ
 in_column column wanted line = padded wanted (text_in column line) ++ codes "  "
 
 -- the names of a row's request

@@ -16,7 +16,7 @@ use std::alloc::{AllocError, Global};
 
 /// A column of the table of changes.
 #[derive(Clone, Copy, Debug, PartialEq, Eq)]
-pub(crate) enum Column {
+pub(crate) enum ChangeColumn {
     /// The person of the request.
     Person,
     /// The action.
@@ -194,36 +194,36 @@ fn also_between(
 }
 
 /// What stands above a column.
-fn title(column: Column) -> &'static str
+fn title(column: ChangeColumn) -> &'static str
     ensures { result.now ≡ title column }
 {
     match column {
-        Column::Person => "person",
-        Column::Action => "action",
-        Column::Resource => "resource",
-        Column::Before => "before",
-        Column::After => "after",
-        Column::RulesBefore => "rules before",
-        Column::RulesAfter => "rules after",
-        Column::Also => "also another",
+        ChangeColumn::Person => "person",
+        ChangeColumn::Action => "action",
+        ChangeColumn::Resource => "resource",
+        ChangeColumn::Before => "before",
+        ChangeColumn::After => "after",
+        ChangeColumn::RulesBefore => "rules before",
+        ChangeColumn::RulesAfter => "rules after",
+        ChangeColumn::Also => "also another",
     }
 }
 
 /// What stands in a column of the row of a change.
-fn cell_text(alloc: Global, column: Column, change: &Value) -> Result<Vec<u8>, AllocError>
+fn cell_text(alloc: Global, column: ChangeColumn, change: &Value) -> Result<Vec<u8>, AllocError>
     ensures { IfOk result (λ v. v.items ≡ cell_text column (view change.now)) }
 {
     let before = change.get("before");
     let after = change.get("after");
     match column {
-        Column::Person => Vec::from_slice(alloc, name_at(change, "person").as_bytes()),
-        Column::Action => Vec::from_slice(alloc, name_at(change, "action").as_bytes()),
-        Column::Resource => Vec::from_slice(alloc, name_at(change, "resource").as_bytes()),
-        Column::Before => Vec::from_slice(alloc, decision_of(before).as_bytes()),
-        Column::After => Vec::from_slice(alloc, decision_of(after).as_bytes()),
-        Column::RulesBefore => rules_of(alloc, before),
-        Column::RulesAfter => rules_of(alloc, after),
-        Column::Also => also_between(alloc, before, after),
+        ChangeColumn::Person => Vec::from_slice(alloc, name_at(change, "person").as_bytes()),
+        ChangeColumn::Action => Vec::from_slice(alloc, name_at(change, "action").as_bytes()),
+        ChangeColumn::Resource => Vec::from_slice(alloc, name_at(change, "resource").as_bytes()),
+        ChangeColumn::Before => Vec::from_slice(alloc, decision_of(before).as_bytes()),
+        ChangeColumn::After => Vec::from_slice(alloc, decision_of(after).as_bytes()),
+        ChangeColumn::RulesBefore => rules_of(alloc, before),
+        ChangeColumn::RulesAfter => rules_of(alloc, after),
+        ChangeColumn::Also => also_between(alloc, before, after),
     }
 }
 
@@ -231,7 +231,7 @@ fn cell_text(alloc: Global, column: Column, change: &Value) -> Result<Vec<u8>, A
 #[tactic(auto, unfolding(crate::specs::Shown::text_in))]
 pub(crate) fn text_in(
     alloc: Global,
-    column: Column,
+    column: ChangeColumn,
     line: Option<&Value>,
 ) -> Result<Vec<u8>, AllocError>
     ensures { IfOk result (λ v. v.items ≡ text_in column (option_map (λ v. view v.now) line.entry)) }

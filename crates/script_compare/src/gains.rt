@@ -24,7 +24,7 @@ pub enum Way {
 
 /// Of a request the rules that permit it, and its line.
 #[derive(Drop)]
-pub(crate) struct Row {
+pub(crate) struct GainRow {
     pub(crate) rules: Vec<u8>,
     pub(crate) text: Vec<u8>,
 }
@@ -75,7 +75,12 @@ pub fn has(way: Way, told: &Value) -> bool
 }
 
 /// Puts the row of a change behind others, if it is one of those.
-fn push_row(alloc: Global, way: Way, change: &Value, rows: &mut Vec<Row>) -> Result<(), AllocError>
+fn push_row(
+    alloc: Global,
+    way: Way,
+    change: &Value,
+    rows: &mut Vec<GainRow>,
+) -> Result<(), AllocError>
     ensures { OnOk result (map row_view rows.new.items ≡ map row_view rows.old.items ++ row_if way (view change.now)) }
 {
     if !is_of(way, change) {
@@ -83,12 +88,16 @@ fn push_row(alloc: Global, way: Way, change: &Value, rows: &mut Vec<Row>) -> Res
     }
     let rules = rules_of(alloc, permitted(way, change))?;
     let text = request_text(alloc, change)?;
-    rows.push(Row { rules, text })?;
+    rows.push(GainRow { rules, text })?;
     Ok(())
 }
 
 /// The rows of some changes.
-pub(crate) fn rows_of(alloc: Global, way: Way, changes: &[Value]) -> Result<Vec<Row>, AllocError>
+pub(crate) fn rows_of(
+    alloc: Global,
+    way: Way,
+    changes: &[Value],
+) -> Result<Vec<GainRow>, AllocError>
     ensures { IfOk result (λ rows. map row_view rows.items ≡ rows_of way (map view changes.now)) }
 {
     let mut rows = Vec::new(alloc);
@@ -125,7 +134,7 @@ fn push_first(alloc: Global, rules: &[u8], seen: &mut Vec<Vec<u8>>) -> Result<()
 /// Puts the rules of rows behind others, each once, in the order in which they come first.
 pub(crate) fn push_firsts(
     alloc: Global,
-    rows: &[Row],
+    rows: &[GainRow],
     seen: &mut Vec<Vec<u8>>,
 ) -> Result<(), AllocError>
     ensures { OnOk result (map (λ v. v.items) seen.new.items

@@ -8,7 +8,7 @@ ghost use Rattle.script_compare.specs.Gains.{members_of, request_text, rows_of, 
 ghost use Rattle.script_compare.specs.proofs_only.Rows.{line_view, row_view};
 
 use crate::column::name_at;
-use crate::gains::{Row, Way, push_firsts, rows_of};
+use crate::gains::{GainRow, Way, push_firsts, rows_of};
 use crate::report::kind_of;
 use itoa::Buffer;
 use serde_json::Value;
@@ -16,7 +16,7 @@ use std::alloc::{AllocError, Global};
 
 /// A line.
 #[derive(Drop)]
-pub(crate) struct Line {
+pub(crate) struct PrintedLine {
     /// Whether it is a request's.
     pub(crate) is_request: bool,
     /// What it says, with its newline.
@@ -101,7 +101,7 @@ fn group_text(alloc: Global, way: Way, rules: &[u8], count: usize) -> Result<Vec
 }
 
 /// How many of the rows these rules permit.
-fn members_of(rules: &[u8], rows: &[Row]) -> usize
+fn members_of(rules: &[u8], rows: &[GainRow]) -> usize
     ensures { result ≡ members_of rules.now (map row_view rows.now) }
 {
     let mut count = 0;
@@ -117,8 +117,8 @@ fn members_of(rules: &[u8], rows: &[Row]) -> usize
 fn push_member(
     alloc: Global,
     rules: &[u8],
-    row: &Row,
-    lines: &mut Vec<Line>,
+    row: &GainRow,
+    lines: &mut Vec<PrintedLine>,
 ) -> Result<(), AllocError>
     ensures { OnOk result (map line_view lines.new.items
         ≡ map line_view lines.old.items ++ member_if rules.now (row_view row.now)) }
@@ -126,7 +126,7 @@ fn push_member(
     if rules != row.rules.as_slice() {
         return Ok(());
     }
-    lines.push(Line {
+    lines.push(PrintedLine {
         is_request: true,
         text: Vec::from_slice(alloc, row.text.as_slice())?,
     })?;
@@ -137,8 +137,8 @@ fn push_member(
 fn push_members(
     alloc: Global,
     rules: &[u8],
-    rows: &[Row],
-    lines: &mut Vec<Line>,
+    rows: &[GainRow],
+    lines: &mut Vec<PrintedLine>,
 ) -> Result<(), AllocError>
     ensures { OnOk result (map line_view lines.new.items
         ≡ map line_view lines.old.items ++ flat_map (member_if rules.now) (map row_view rows.now)) }
@@ -153,14 +153,14 @@ fn push_members(
 fn push_group(
     alloc: Global,
     way: Way,
-    rows: &[Row],
+    rows: &[GainRow],
     rules: &[u8],
-    lines: &mut Vec<Line>,
+    lines: &mut Vec<PrintedLine>,
 ) -> Result<(), AllocError>
     ensures { OnOk result (map line_view lines.new.items
         ≡ map line_view lines.old.items ++ group_lines way (map row_view rows.now) rules.now) }
 {
-    lines.push(Line {
+    lines.push(PrintedLine {
         is_request: false,
         text: group_text(alloc, way, rules, members_of(rules, rows))?,
     })?;
@@ -171,9 +171,9 @@ fn push_group(
 fn push_groups(
     alloc: Global,
     way: Way,
-    rows: &[Row],
+    rows: &[GainRow],
     groups: &[Vec<u8>],
-    lines: &mut Vec<Line>,
+    lines: &mut Vec<PrintedLine>,
 ) -> Result<(), AllocError>
     ensures { OnOk result (map line_view lines.new.items ≡ map line_view lines.old.items
         ++ flat_map (group_lines way (map row_view rows.now)) (map (λ v. v.items) groups.now)) }
@@ -189,7 +189,7 @@ fn push_way(
     alloc: Global,
     way: Way,
     changes: &[Value],
-    lines: &mut Vec<Line>,
+    lines: &mut Vec<PrintedLine>,
 ) -> Result<(), AllocError>
     ensures { OnOk result (map line_view lines.new.items ≡ map line_view lines.old.items
         ++ groups_of way (rows_of way (map view changes.now))) }
@@ -201,7 +201,7 @@ fn push_way(
 }
 
 /// The lines of what some changes gain, and then of what they lose.
-pub(crate) fn lines_of(alloc: Global, changes: &[Value]) -> Result<Vec<Line>, AllocError>
+pub(crate) fn lines_of(alloc: Global, changes: &[Value]) -> Result<Vec<PrintedLine>, AllocError>
     ensures { IfOk result (λ lines. map line_view lines.items ≡ lines_of (map view changes.now)) }
 {
     let mut lines = Vec::new(alloc);

@@ -10,7 +10,7 @@ ghost use Rattle.script_compare.specs.Shown.{padded, reasons_of, row_text, rows_
 ghost use Rattle.script_compare.specs.Shown.{shown_byte, shown_text};
 ghost use Rattle.script_compare.specs.Shown.{widest, width, widths_of};
 
-use crate::column::{Column, members_at, text_in};
+use crate::column::{ChangeColumn, members_at, text_in};
 use crate::report::is_nothing;
 use itoa::Buffer;
 use serde_json::{Map, Value};
@@ -93,7 +93,7 @@ fn push_padded(wanted: usize, text: &[u8], out: &mut Vec<u8>) -> Result<(), Allo
 /// The greatest of a width and those of a column's texts.
 fn widest(
     alloc: Global,
-    column: Column,
+    column: ChangeColumn,
     least: usize,
     changes: &[Value],
 ) -> Result<usize, AllocError>
@@ -112,7 +112,7 @@ fn column_width(
     alloc: Global,
     decisions: &[Value],
     reasons: &[Value],
-    column: Column,
+    column: ChangeColumn,
 ) -> Result<usize, AllocError>
     ensures { IfOk result (λ n. n ≡ column_width (map view decisions.now) (map view reasons.now) column) }
 {
@@ -128,13 +128,13 @@ fn widths_of(alloc: Global, decisions: &[Value], reasons: &[Value]) -> Result<Wi
     ensures { IfOk result (λ w. w ≡ widths_of (map view decisions.now) (map view reasons.now)) }
 {
     Ok(Widths {
-        person: column_width(alloc, decisions, reasons, Column::Person)?,
-        action: column_width(alloc, decisions, reasons, Column::Action)?,
-        resource: column_width(alloc, decisions, reasons, Column::Resource)?,
-        before: column_width(alloc, decisions, reasons, Column::Before)?,
-        after: column_width(alloc, decisions, reasons, Column::After)?,
-        rules_before: column_width(alloc, decisions, reasons, Column::RulesBefore)?,
-        rules_after: column_width(alloc, decisions, reasons, Column::RulesAfter)?,
+        person: column_width(alloc, decisions, reasons, ChangeColumn::Person)?,
+        action: column_width(alloc, decisions, reasons, ChangeColumn::Action)?,
+        resource: column_width(alloc, decisions, reasons, ChangeColumn::Resource)?,
+        before: column_width(alloc, decisions, reasons, ChangeColumn::Before)?,
+        after: column_width(alloc, decisions, reasons, ChangeColumn::After)?,
+        rules_before: column_width(alloc, decisions, reasons, ChangeColumn::RulesBefore)?,
+        rules_after: column_width(alloc, decisions, reasons, ChangeColumn::RulesAfter)?,
     })
 }
 
@@ -142,7 +142,7 @@ fn widths_of(alloc: Global, decisions: &[Value], reasons: &[Value]) -> Result<Wi
 #[tactic(auto, unfolding(crate::specs::Shown::in_column))]
 fn push_column(
     alloc: Global,
-    column: Column,
+    column: ChangeColumn,
     wanted: usize,
     line: Option<&Value>,
     out: &mut Vec<u8>,
@@ -166,9 +166,9 @@ fn push_names(
     ensures { OnOk result (out.new.items
         ≡ out.old.items ++ names_of widths (option_map (λ v. view v.now) line.entry)) }
 {
-    push_column(alloc, Column::Person, widths.person, line, out)?;
-    push_column(alloc, Column::Action, widths.action, line, out)?;
-    push_column(alloc, Column::Resource, widths.resource, line, out)
+    push_column(alloc, ChangeColumn::Person, widths.person, line, out)?;
+    push_column(alloc, ChangeColumn::Action, widths.action, line, out)?;
+    push_column(alloc, ChangeColumn::Resource, widths.resource, line, out)
 }
 
 /// Puts both decisions of a row behind others.
@@ -182,8 +182,8 @@ fn push_decisions(
     ensures { OnOk result (out.new.items
         ≡ out.old.items ++ decisions_of widths (option_map (λ v. view v.now) line.entry)) }
 {
-    push_column(alloc, Column::Before, widths.before, line, out)?;
-    push_column(alloc, Column::After, widths.after, line, out)
+    push_column(alloc, ChangeColumn::Before, widths.before, line, out)?;
+    push_column(alloc, ChangeColumn::After, widths.after, line, out)
 }
 
 /// Puts the rules of both decisions of a row behind others, and what else is another.
@@ -197,9 +197,21 @@ fn push_reasons(
     ensures { OnOk result (out.new.items
         ≡ out.old.items ++ reasons_of widths (option_map (λ v. view v.now) line.entry)) }
 {
-    push_column(alloc, Column::RulesBefore, widths.rules_before, line, out)?;
-    push_column(alloc, Column::RulesAfter, widths.rules_after, line, out)?;
-    let also = text_in(alloc, Column::Also, line)?;
+    push_column(
+        alloc,
+        ChangeColumn::RulesBefore,
+        widths.rules_before,
+        line,
+        out,
+    )?;
+    push_column(
+        alloc,
+        ChangeColumn::RulesAfter,
+        widths.rules_after,
+        line,
+        out,
+    )?;
+    let also = text_in(alloc, ChangeColumn::Also, line)?;
     push_padded(0, also.as_slice(), out)
 }
 

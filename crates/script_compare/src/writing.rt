@@ -8,7 +8,7 @@ ghost use Rattle.script_compare.specs.proofs_only.Rows.{line_view};
 
 use crate::column::members_at;
 use crate::gains::{Way, count_of};
-use crate::lines::{Line, lines_of};
+use crate::lines::{PrintedLine, lines_of};
 use crate::report::is_nothing;
 use itoa::Buffer;
 use serde_json::Value;
@@ -48,7 +48,7 @@ fn push_summary(decisions: &[Value], reasons: usize, out: &mut Vec<u8>) -> Resul
 }
 
 /// Puts lines behind others.
-fn push_lines(lines: &[Line], out: &mut Vec<u8>) -> Result<(), AllocError>
+fn push_lines(lines: &[PrintedLine], out: &mut Vec<u8>) -> Result<(), AllocError>
     ensures { OnOk result (out.new.items
         ≡ out.old.items ++ flat_map (λ line. line.1) (map line_view lines.now)) }
 {
@@ -59,7 +59,7 @@ fn push_lines(lines: &[Line], out: &mut Vec<u8>) -> Result<(), AllocError>
 }
 
 /// How many of some lines are those of requests.
-fn requests(lines: &[Line]) -> usize
+fn requests(lines: &[PrintedLine]) -> usize
     ensures { result ≡ count_by (λ line. line.0) (map line_view lines.now) }
 {
     let mut count = 0;
@@ -83,7 +83,7 @@ fn push_rest(count: usize, out: &mut Vec<u8>) -> Result<(), AllocError>
 }
 
 /// The first of some lines, which are told, and the others.
-fn cut(lines: &[Line]) -> (&[Line], &[Line])
+fn cut(lines: &[PrintedLine]) -> (&[PrintedLine], &[PrintedLine])
     ensures told { map line_view result.0.now ≡ take most (map line_view lines.now) }
     ensures others { map line_view result.1.now ≡ drop most (map line_view lines.now) }
 {
@@ -92,7 +92,7 @@ fn cut(lines: &[Line]) -> (&[Line], &[Line])
 }
 
 /// Puts the first of some lines behind others, and how many requests stand in those that are left.
-fn push_listed(lines: &[Line], out: &mut Vec<u8>) -> Result<(), AllocError>
+fn push_listed(lines: &[PrintedLine], out: &mut Vec<u8>) -> Result<(), AllocError>
     ensures { OnOk result (out.new.items ≡ out.old.items ++ listed (map line_view lines.now)) }
 {
     let (told, others) = cut(lines);

@@ -5,9 +5,9 @@ use Rattle.script_files.specs.Cut.{cut}
 use Rattle.script_files.specs.Numbers.{leading_number}
 use Rattle.script_files.specs.declared.line.Content.{Content}
 use Rattle.script_files.specs.declared.line.Content.TheVariants.{Empty, Comment, Heading, Sent, Reply, Times, NoModules, Other}
-use Rattle.script_files.specs.declared.line.Line.{Line}
-use Rattle.script_files.specs.declared.session.Comparison.{Comparison}
-use Rattle.script_files.specs.declared.session.Comparison.TheVariants.{Bytes, Data, Part}
+use Rattle.script_files.specs.declared.line.NumberedLine.{NumberedLine}
+use Rattle.script_files.specs.declared.session.ReplyComparison.{ReplyComparison}
+use Rattle.script_files.specs.declared.session.ReplyComparison.TheVariants.{Bytes, Data, Part}
 
 -- the number that two bytes, a space and a digit, write
 abbrev pub modules_in : List ℕ → Option ℕ
@@ -41,7 +41,7 @@ abbrev pub times_of : List ℕ → Content
 times_of text = times_in (leading_number text)
 
 -- a reply that is expected, which is compared in this way
-abbrev pub expected : Comparison → List ℕ → Content
+abbrev pub expected : ReplyComparison → List ℕ → Content
 expected comparison text = Reply (record { comparison = comparison; text = text })
 
 -- what a line is that has this text behind a mark: # a heading, > what is sent, < = ~ a reply that is compared byte by byte, as data or in part,
@@ -68,10 +68,10 @@ abbrev pub without_end : ℕ → List ℕ → List ℕ
 without_end byte text = if bytes_eq (drop (length text - 1) text) (byte ∷ []) then take (length text - 1) text else text
 
 -- lines, numbered from here on, each without the carriage return that may stand before its newline
-abbrev pub numbered_lines : ℕ → List (List ℕ) → List Line
+abbrev pub numbered_lines : ℕ → List (List ℕ) → List NumberedLine
 numbered_lines number [] = []
 numbered_lines number (line ∷ lines) = record { number = number; content = content_of (without_end 13 line) } ∷ numbered_lines (number + 1) lines
 
 -- the lines of a file of these bytes
-abbrev pub lines_of : List ℕ → List Line
+abbrev pub lines_of : List ℕ → List NumberedLine
 lines_of bytes = numbered_lines 1 (cut (10 ∷ []) bytes)

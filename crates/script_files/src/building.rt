@@ -6,14 +6,14 @@ ghost use Rattle.script_files.specs.Sessions.{body, is_empty, paragraph, reply_a
 ghost use Rattle.script_files.specs.Sessions.{steps_at, steps_of, up_to_heading};
 ghost use Rattle.script_files.specs.Standing.{is_heading};
 
-use crate::line::{Content, Heading, Line};
-use crate::session::{Expected, Session, Step};
+use crate::line::{Content, Heading, NumberedLine};
+use crate::session::{Expected, SentLine, Session};
 use crate::writing::written;
 use ent_values::Items;
 use std::alloc::{AllocError, Global};
 
 /// The reply that these lines begin with.
-fn reply_in(lines: &[Line]) -> Option<&Expected>
+fn reply_in(lines: &[NumberedLine]) -> Option<&Expected>
     ensures { option_map (λ reply. reply.now) result ≡ reply_in lines.now }
 {
     match &lines.first()?.content {
@@ -37,9 +37,9 @@ fn reply_at(alloc: Global, time: Option<u32>, reply: &Expected) -> Result<Expect
 fn push_step(
     alloc: Global,
     time: Option<u32>,
-    line: &Line,
-    behind: &[Line],
-    steps: &mut Items<Step>,
+    line: &NumberedLine,
+    behind: &[NumberedLine],
+    steps: &mut Items<SentLine>,
 ) -> Result<(), AllocError>
     ensures { OnOk result (steps.new ≡ steps.old ++ step_at time line.now behind.now) }
 {
@@ -51,7 +51,7 @@ fn push_step(
         Some(reply) => Some(reply_at(alloc, time, reply)?),
     };
     let text = written(alloc, time, text.as_slice())?;
-    steps.push(Step {
+    steps.push(SentLine {
         number: line.number,
         line: text,
         expected,
@@ -62,8 +62,8 @@ fn push_step(
 fn push_steps(
     alloc: Global,
     time: Option<u32>,
-    lines: &[Line],
-    steps: &mut Items<Step>,
+    lines: &[NumberedLine],
+    steps: &mut Items<SentLine>,
 ) -> Result<(), AllocError>
     ensures { OnOk result (steps.new ≡ steps.old ++ steps_of time lines.now) }
 {
@@ -77,8 +77,8 @@ fn push_steps(
 fn push_times(
     alloc: Global,
     times: u32,
-    lines: &[Line],
-    steps: &mut Items<Step>,
+    lines: &[NumberedLine],
+    steps: &mut Items<SentLine>,
 ) -> Result<(), AllocError>
     ensures { OnOk result (steps.new ≡ steps.old ++ steps_at times lines.now) }
 {
@@ -89,7 +89,11 @@ fn push_times(
 }
 
 /// Puts the steps of lines between two empty ones behind others.
-fn push_paragraph(alloc: Global, lines: &[Line], steps: &mut Items<Step>) -> Result<(), AllocError>
+fn push_paragraph(
+    alloc: Global,
+    lines: &[NumberedLine],
+    steps: &mut Items<SentLine>,
+) -> Result<(), AllocError>
     ensures { OnOk result (steps.new ≡ steps.old ++ paragraph lines.now) }
 {
     for i in 0..lines.len() {
@@ -102,14 +106,14 @@ fn push_paragraph(alloc: Global, lines: &[Line], steps: &mut Items<Step>) -> Res
 }
 
 /// Whether a line is empty.
-fn is_empty(line: &Line) -> bool
+fn is_empty(line: &NumberedLine) -> bool
     ensures { result ≡ is_empty line.now.content }
 {
     matches!(line.content, Content::Empty)
 }
 
 /// The lines before the first empty one, and those behind it.
-fn split_paragraph(lines: &[Line]) -> Option<(&[Line], &[Line])>
+fn split_paragraph(lines: &[NumberedLine]) -> Option<(&[NumberedLine], &[NumberedLine])>
     ensures none { IfNone result (slice_split (λ l. is_empty l.content) lines.now ≡ lines.now ∷ []) }
     ensures some { IfSome result (λ p. slice_split (λ l. is_empty l.content) lines.now ≡ p.0.now ∷ slice_split (λ l. is_empty l.content) p.1.now) }
     ensures shorter { IfSome result (λ p. length p.1.now < length lines.now) }
@@ -123,7 +127,7 @@ fn split_paragraph(lines: &[Line]) -> Option<(&[Line], &[Line])>
 }
 
 /// The steps of the lines below a heading.
-fn body(alloc: Global, lines: &[Line]) -> Result<Items<Step>, AllocError>
+fn body(alloc: Global, lines: &[NumberedLine]) -> Result<Items<SentLine>, AllocError>
     ensures { IfOk result (λ steps. steps ≡ body lines.now) }
 {
     let mut steps = Items::new(alloc);
@@ -137,14 +141,14 @@ fn body(alloc: Global, lines: &[Line]) -> Result<Items<Step>, AllocError>
 }
 
 /// Whether a line is a heading.
-fn is_heading(line: &Line) -> bool
+fn is_heading(line: &NumberedLine) -> bool
     ensures { result ≡ is_heading line.now.content }
 {
     matches!(line.content, Content::Heading(_))
 }
 
 /// The lines up to the next heading.
-fn up_to_heading(lines: &[Line]) -> &[Line]
+fn up_to_heading(lines: &[NumberedLine]) -> &[NumberedLine]
     ensures { result.now ≡ up_to_heading lines.now }
 {
     for i in 0..lines.len() {
@@ -160,7 +164,7 @@ fn session(
     alloc: Global,
     number: u64,
     heading: &Heading,
-    behind: &[Line],
+    behind: &[NumberedLine],
 ) -> Result<Session, AllocError>
     ensures { IfOk result (λ s. s ≡ session_at number heading.now behind.now) }
 {
@@ -175,7 +179,10 @@ fn session(
 }
 
 /// The sessions of the lines of a file.
-pub(crate) fn sessions_in(alloc: Global, lines: &[Line]) -> Result<Items<Session>, AllocError>
+pub(crate) fn sessions_in(
+    alloc: Global,
+    lines: &[NumberedLine],
+) -> Result<Items<Session>, AllocError>
     ensures { IfOk result (λ sessions. sessions ≡ sessions_in lines.now) }
 {
     let mut sessions = Items::new(alloc);

@@ -16,4 +16,4 @@ mod writing;
 pub use fault::{Mistake, SessionFault};
 pub use reading::read_sessions;
 pub use sending::read_lines;
-pub use session::{Comparison, Expected, Session, Step};
+pub use session::{Expected, ReplyComparison, SentLine, Session};

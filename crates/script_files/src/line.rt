@@ -6,7 +6,7 @@ ghost use Rattle.script_files.specs.Lines.{times_of, without_end};
 
 use crate::cut::cut;
 use crate::number::leading_number;
-use crate::session::{Comparison, Expected};
+use crate::session::{Expected, ReplyComparison};
 use ent_values::Items;
 use std::alloc::{AllocError, Global};
 
@@ -46,7 +46,7 @@ pub(crate) enum Content {
 
 /// A line and its number, counted from 1.
 #[derive(Drop)]
-pub(crate) struct Line {
+pub(crate) struct NumberedLine {
     pub(crate) number: u64,
     pub(crate) content: Content,
 }
@@ -95,7 +95,7 @@ fn times_of(text: &[u8]) -> Content
 }
 
 /// A reply that is expected, which is compared in this way.
-fn expected(alloc: Global, comparison: Comparison, text: &[u8]) -> Result<Content, AllocError>
+fn expected(alloc: Global, comparison: ReplyComparison, text: &[u8]) -> Result<Content, AllocError>
     ensures { IfOk result (λ c. c ≡ expected comparison text.now) }
 {
     let text = Items::from_vec(Vec::from_slice(alloc, text)?);
@@ -109,9 +109,9 @@ fn marked(alloc: Global, mark: u8, text: &[u8]) -> Result<Content, AllocError>
     match mark {
         b'#' => heading_of(alloc, text),
         b'>' => Ok(Content::Sent(Items::from_vec(Vec::from_slice(alloc, text)?))),
-        b'<' => expected(alloc, Comparison::Bytes, text),
-        b'=' => expected(alloc, Comparison::Data, text),
-        b'~' => expected(alloc, Comparison::Part, text),
+        b'<' => expected(alloc, ReplyComparison::Bytes, text),
+        b'=' => expected(alloc, ReplyComparison::Data, text),
+        b'~' => expected(alloc, ReplyComparison::Part, text),
         b'*' => Ok(times_of(text)),
         _ => Ok(Content::Other),
     }
@@ -141,7 +141,7 @@ pub(crate) fn without_end(byte: u8, text: &[u8]) -> &[u8]
 }
 
 /// The lines of a file of these bytes.
-pub(crate) fn lines_of(alloc: Global, bytes: &[u8]) -> Result<Vec<Line>, AllocError>
+pub(crate) fn lines_of(alloc: Global, bytes: &[u8]) -> Result<Vec<NumberedLine>, AllocError>
     ensures { IfOk result (λ v. v.items ≡ lines_of bytes.now) }
 {
     let parts = cut(alloc, NEWLINE, bytes)?;
@@ -150,7 +150,7 @@ pub(crate) fn lines_of(alloc: Global, bytes: &[u8]) -> Result<Vec<Line>, AllocEr
     for part in parts.as_slice() {
         number += 1;
         let content = content_of(alloc, without_end(b'\r', part))?;
-        lines.push(Line { number, content })?;
+        lines.push(NumberedLine { number, content })?;
     }
     Ok(lines)
 }

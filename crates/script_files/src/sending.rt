@@ -5,16 +5,16 @@ ghost use Rattle.script_files.specs.Sent.{sent, sent_in};
 
 use crate::cut::cut;
 use crate::line::{NEWLINE, without_end};
-use crate::session::Step;
+use crate::session::SentLine;
 use ent_values::Items;
 use std::alloc::{AllocError, Global};
 
 /// The step of a line of that number, of whose reply nothing is said.
-fn sent(alloc: Global, number: u64, line: &[u8]) -> Result<Step, AllocError>
+fn sent(alloc: Global, number: u64, line: &[u8]) -> Result<SentLine, AllocError>
     ensures { IfOk result (λ s. s ≡ sent number line.now) }
 {
     let line = Items::from_vec(Vec::from_slice(alloc, line)?);
-    Ok(Step {
+    Ok(SentLine {
         number,
         line,
         expected: None,
@@ -29,7 +29,7 @@ fn sent(alloc: Global, number: u64, line: &[u8]) -> Result<Step, AllocError>
 /// `AllocError` if memory runs out.
 ///
 /// Its contract is an equation but for memory.
-pub fn read_lines(alloc: Global, bytes: &[u8]) -> Result<Items<Step>, AllocError>
+pub fn read_lines(alloc: Global, bytes: &[u8]) -> Result<Items<SentLine>, AllocError>
     ensures { IfOk result (λ steps. steps ≡ sent_in bytes.now) }
 {
     let mut steps = Items::new(alloc);

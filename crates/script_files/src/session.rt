@@ -4,7 +4,7 @@ use ent_values::Items;
 
 /// How a reply is compared with the one that is expected.
 #[derive(Clone, Copy, Debug, PartialEq, Eq)]
-pub enum Comparison {
+pub enum ReplyComparison {
     /// Byte by byte.
     Bytes,
     /// As JSON: it has the same data.
@@ -17,14 +17,14 @@ pub enum Comparison {
 #[derive(Debug, Drop)]
 pub struct Expected {
     /// How the two are compared.
-    pub comparison: Comparison,
+    pub comparison: ReplyComparison,
     /// What the reply is compared with.
     pub text: Items<u8>,
 }
 
 /// A line that is sent, and what is expected of its reply.
 #[derive(Debug, Drop)]
-pub struct Step {
+pub struct SentLine {
     /// The number of the line of the file that it was read from, counted from 1.
     pub number: u64,
     /// What is sent, without a newline.
@@ -43,5 +43,5 @@ pub struct Session {
     /// How many modules of each sort the service has, from 1 to 4.
     pub modules: usize,
     /// Its steps, in order.
-    pub steps: Items<Step>,
+    pub steps: Items<SentLine>,
 }

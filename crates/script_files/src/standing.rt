@@ -2,14 +2,14 @@
 
 ghost use Rattle.std.specs.Prelude.{◌≡◌, [], ◌∷◌, List};
 ghost use Rattle.script_files.specs.Standing.{misplaced, mistake_at, place_of};
-ghost use Rattle.script_files.specs.declared.line.Line.{Line};
+ghost use Rattle.script_files.specs.declared.line.NumberedLine.{NumberedLine};
 
 use crate::fault::Mistake;
-use crate::line::{Content, Line};
+use crate::line::{Content, NumberedLine};
 
 /// What the lines before a line say of which can stand there.
 #[derive(Clone, Copy)]
-pub(crate) struct Place {
+pub(crate) struct LinePlace {
     /// A session has begun.
     begun: bool,
     /// What stands here comes many times.
@@ -18,12 +18,12 @@ pub(crate) struct Place {
     sent: bool,
 }
 
-impl Place {
+impl LinePlace {
     /// The place of the first line.
-    fn first() -> Place
+    fn first() -> LinePlace
         ensures { result ≡ place_of [] }
     {
-        Place {
+        LinePlace {
             begun: false,
             repeats: false,
             sent: false,
@@ -31,7 +31,7 @@ impl Place {
     }
 
     /// Why a line can't stand here, if it can't.
-    fn mistake(self, line: &Line) -> Option<Mistake>
+    fn mistake(self, line: &NumberedLine) -> Option<Mistake>
         ensures { result ≡ mistake_at self line.now.content }
     {
         match line.content {
@@ -47,8 +47,8 @@ impl Place {
     }
 
     /// The place behind a line that stands here.
-    fn behind(self, line: &Line) -> Place
-        ensures { (before : List Line) → self ≡ place_of before → result ≡ place_of (line.now ∷ before) }
+    fn behind(self, line: &NumberedLine) -> LinePlace
+        ensures { (before : List NumberedLine) → self ≡ place_of before → result ≡ place_of (line.now ∷ before) }
     {
         let mut place = self;
         place.sent = false;
@@ -64,10 +64,10 @@ impl Place {
 }
 
 /// The number of the first line that can't stand behind those before it, if there is one, and why it can't.
-pub(crate) fn misplaced(lines: &[Line]) -> Option<(u64, Mistake)>
+pub(crate) fn misplaced(lines: &[NumberedLine]) -> Option<(u64, Mistake)>
     ensures { result ≡ misplaced [] lines.now }
 {
-    let mut place = Place::first();
+    let mut place = LinePlace::first();
     for line in lines {
         if let Some(mistake) = place.mistake(line) {
             return Some((line.number, mistake));

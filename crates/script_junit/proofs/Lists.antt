@@ -6,7 +6,7 @@ use Rattle.std.proofs.lemmas.List.Sums.{sum_by_push}
 use Rattle.std.proofs.lemmas.Str.{chars-nil, chars_past_char}
 use Rattle.script_junit.specs.Escaped.{escaped_char}
 use Rattle.script_junit.specs.Junit.{failed}
-use Rattle.script_junit.specs.declared.result.Case.{Case}
+use Rattle.script_junit.specs.declared.result.TestCase.{TestCase}
 
 -- one more character is written
 pub written_more : (rest next : List ℕ) (c : ℕ) (now new all : List ℕ) → IsUtf8 rest → rest ≡ encode_utf8 c ++ next → new ≡ now ++ escaped_char c
@@ -22,22 +22,22 @@ written_all [] now all none left = sym (append-nil now) ∙ ap (λ cs. now ++ fl
 written_all (byte ∷ rest) now all none left = absurd (omega (arith, none))
 
 -- one test more is counted
-counted : (cases : List Case) (c : Case) → failed (cases ++ c ∷ []) ≡ failed cases + cond (not c.passed) 1 0
+counted : (cases : List TestCase) (c : TestCase) → failed (cases ++ c ∷ []) ≡ failed cases + cond (not c.passed) 1 0
 counted cases c = sum_by_push (λ x. cond (not x.passed) 1 0) cases c
 
-counted_by : (cases : List Case) (i n : ℕ) (c : Case) (b : Bool) → i < length cases → c ≡ get_or cases i c → c.passed ≡ b
+counted_by : (cases : List TestCase) (i n : ℕ) (c : TestCase) (b : Bool) → i < length cases → c ≡ get_or cases i c → c.passed ≡ b
     → n ≡ failed (take i cases) → n + cond (not b) 1 0 ≡ failed (take (i + 1) cases)
 counted_by cases i n c b lt is so count =
     ap (λ m. m + cond (not b) 1 0) count ∙ ap (λ p. failed (take i cases) + cond (not p) 1 0) (sym so)
     ∙ sym (counted (take i cases) c) ∙ ap (λ x. failed (take i cases ++ x ∷ [])) is ∙ ap failed (sym (take_more cases i c lt))
 
 -- one that failed
-pub counted_more : (cases : List Case) (i n : ℕ) (c : Case) → i < length cases → c ≡ get_or cases i c → c.passed ≡ false
+pub counted_more : (cases : List TestCase) (i n : ℕ) (c : TestCase) → i < length cases → c ≡ get_or cases i c → c.passed ≡ false
     → n ≡ failed (take i cases) → n + 1 ≡ failed (take (i + 1) cases)
 counted_more cases i n c lt is so count = counted_by cases i n c false lt is so count
 
 -- one that passed
-pub counted_same : (cases : List Case) (i n : ℕ) (c : Case) → i < length cases → c ≡ get_or cases i c → c.passed ≡ true
+pub counted_same : (cases : List TestCase) (i n : ℕ) (c : TestCase) → i < length cases → c ≡ get_or cases i c → c.passed ≡ true
     → n ≡ failed (take i cases) → n ≡ failed (take (i + 1) cases)
 counted_same cases i n c lt is so count = let more = counted_by cases i n c true lt is so count in omega (arith, more)
 

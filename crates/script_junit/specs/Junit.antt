@@ -3,7 +3,7 @@ use Rattle.std.specs.Prelude.{ℕ, ◌+◌, List, [], ◌++◌, Bool, not, Optio
 use Rattle.std.specs.List.{count_by, flat_map}
 use Rattle.std.specs.Option.{is_some}
 use Rattle.script_junit.specs.Escaped.{escaped}
-use Rattle.script_junit.specs.declared.result.Case.{Case}
+use Rattle.script_junit.specs.declared.result.TestCase.{TestCase}
 use Rattle.script_junit.specs.declared.result.Suite.{Suite}
 
 -- an attribute of that value
@@ -15,11 +15,11 @@ unfoldable pub number : List ℕ → ℕ → List ℕ
 number word value = word ++ (codes "=\"" ++ (decimal value ++ codes "\""))
 
 -- what a test has inside: what was told of it, where it failed
-unfoldable pub failure : Case → List ℕ
+unfoldable pub failure : TestCase → List ℕ
 failure c = if c.passed then codes "/>\n" else codes "><failure message=\"failed\">" ++ (escaped c.told ++ codes "</failure></testcase>\n")
 
 -- a test of a file of that name
-unfoldable pub case_text : List ℕ → Case → List ℕ
+unfoldable pub case_text : List ℕ → TestCase → List ℕ
 case_text file c =
     codes "    <testcase"
     ++ (attribute (codes " classname") file
@@ -36,7 +36,7 @@ abbrev pub errors : Option (List ℕ) → ℕ
 errors told = cond (is_some told) 1 0
 
 -- how many of these failed
-abbrev pub failed : List Case → ℕ
+abbrev pub failed : List TestCase → ℕ
 failed cases = count_by (λ c. not c.passed) cases
 
 -- the tests of a file

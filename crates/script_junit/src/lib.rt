@@ -5,5 +5,5 @@ mod escaping;
 mod result;
 mod writing;
 
-pub use result::{Case, Suite, errors, failed};
+pub use result::{Suite, TestCase, errors, failed};
 pub use writing::junit_of;

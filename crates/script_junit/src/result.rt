@@ -7,7 +7,7 @@ use ent_values::Items;
 
 /// What became of a test.
 #[derive(Debug, Drop)]
-pub struct Case {
+pub struct TestCase {
     /// What it is called.
     pub name: Items<u8>,
     /// The number of the line of its file that calls it so, counted from 1.
@@ -24,7 +24,7 @@ pub struct Suite<'a> {
     /// What the file is called.
     pub name: &'a str,
     /// Its tests that ran, in order.
-    pub cases: Items<Case>,
+    pub cases: Items<TestCase>,
     /// What was told of the file, where its tests couldn't run.
     pub error: Option<Items<u8>>,
 }
@@ -46,7 +46,7 @@ pub fn errors(error: &Option<Items<u8>>) -> u64
 ///
 /// Its contract is an equation.
 #[tactic(auto, using(crate::proofs::Lists::counted_more, crate::proofs::Lists::counted_same))]
-pub fn failed(cases: &[Case]) -> u64
+pub fn failed(cases: &[TestCase]) -> u64
     ensures value { result ≡ failed cases.now }
     ensures most { result ≤ length cases.now }
 {

@@ -6,7 +6,7 @@ ghost use Rattle.script_junit.specs.Junit.{attribute, case_text, error_text, fai
 ghost use Rattle.script_junit.specs.Junit.{number, suite_text};
 
 use crate::escaping::escaped;
-use crate::result::{Case, Suite, errors, failed};
+use crate::result::{Suite, TestCase, errors, failed};
 use ent_values::Items;
 use itoa::Buffer;
 use std::alloc::{AllocError, Global};
@@ -47,7 +47,7 @@ fn push_number(word: &str, value: u64, text: &mut Vec<u8>) -> Result<(), AllocEr
 
 /// Puts what a test has inside behind a text, and its end.
 #[tactic(auto, unfolding(crate::specs::Junit::failure))]
-fn push_failure(alloc: Global, case: &Case, text: &mut Vec<u8>) -> Result<(), AllocError>
+fn push_failure(alloc: Global, case: &TestCase, text: &mut Vec<u8>) -> Result<(), AllocError>
     ensures { OnOk result (text.new.items ≡ text.old.items ++ failure case.now) }
 {
     if case.passed {
@@ -66,7 +66,12 @@ fn push_failure(alloc: Global, case: &Case, text: &mut Vec<u8>) -> Result<(), Al
 
 /// Puts a test of a file behind a text.
 #[tactic(auto, unfolding(crate::specs::Junit::case_text))]
-fn push_case(alloc: Global, file: &str, case: &Case, text: &mut Vec<u8>) -> Result<(), AllocError>
+fn push_case(
+    alloc: Global,
+    file: &str,
+    case: &TestCase,
+    text: &mut Vec<u8>,
+) -> Result<(), AllocError>
     ensures { OnOk result (text.new.items ≡ text.old.items ++ case_text file.now case.now) }
 {
     text.extend_from_slice(b"    <testcase")?;
@@ -81,7 +86,7 @@ fn push_case(alloc: Global, file: &str, case: &Case, text: &mut Vec<u8>) -> Resu
 fn push_cases(
     alloc: Global,
     file: &str,
-    cases: &[Case],
+    cases: &[TestCase],
     text: &mut Vec<u8>,
 ) -> Result<(), AllocError>
     ensures { OnOk result (text.new.items ≡ text.old.items ++ flat_map (case_text file.now) cases.now) }

@@ -4,7 +4,7 @@
 
 ghost use Rattle.std.specs.Prelude.{◌≡◌, ◌⊎◌};
 
-use lint_links::{State, StateFault, Together};
+use lint_links::{StateFault, StoredState, Together};
 use std::alloc::{AllocError, Global};
 use std::io;
 use std::io::{BufWriter, Read, Write};
@@ -44,7 +44,7 @@ fn send<W: Write>(writer: &mut W, line: &str) -> Result<(), Broken> {
 /// Writes what is told of files and a state together.
 fn tell_state<W: Write>(
     alloc: Global,
-    state: State,
+    state: StoredState,
     files: &[File<'_>],
     writer: &mut W,
 ) -> Result<(), Broken> {
@@ -77,7 +77,7 @@ fn tell<W: Write>(
     files: &[File<'_>],
     writer: &mut W,
 ) -> Result<(), Broken> {
-    match State::of(alloc, state.as_bytes()) {
+    match StoredState::of(alloc, state.as_bytes()) {
         Ok(state) => tell_state(alloc, state, files, writer),
         Err(StateFault::NotDump(_)) => send(writer, "not a state"),
         Err(StateFault::Memory) => Err(Broken),

@@ -18,7 +18,7 @@ use std::test::Fail;
 
 /// Lines with what they are answered: a reader that fails behind them or ends, a writer that takes so many bytes, what
 /// is written, the number of lines or the fault, and a line that is handled then, with the number of its refusal.
-struct Case {
+struct HostileCase {
     lines: &'static str,
     fails: bool,
     room: usize,
@@ -37,7 +37,7 @@ fn refusal(reply: &Reply) -> u8 {
 }
 
 /// Whether a service answers a case as it says.
-fn answers<S: Answering>(alloc: Global, service: &mut S, case: &Case) -> bool
+fn answers<S: Answering>(alloc: Global, service: &mut S, case: &HostileCase) -> bool
     requires { S.is_ready service.old }
 {
     let mut reader = Slow::new(case.lines.as_bytes(), 9, case.fails);
@@ -58,7 +58,7 @@ fn is_answered_over<A: Attributes, P: Policies>(
     attributes: A,
     policies: P,
     limits: Limits,
-    case: &Case,
+    case: &HostileCase,
 ) -> bool
     requires { IsWithinGreatest limits }
 {
@@ -69,7 +69,7 @@ fn is_answered_over<A: Attributes, P: Policies>(
 }
 
 /// Whether a new service within those limits answers a case as it says.
-fn is_answered(alloc: Global, limits: Limits, case: &Case) -> Result<bool, AllocError>
+fn is_answered(alloc: Global, limits: Limits, case: &HostileCase) -> Result<bool, AllocError>
     requires { IsWithinGreatest limits }
 {
     let mut modules: Vec<Box<dyn PolicyFinderModule>> = Vec::new(alloc);
@@ -82,8 +82,8 @@ fn is_answered(alloc: Global, limits: Limits, case: &Case) -> Result<bool, Alloc
 }
 
 /// Faults of a reader in the middle of a line, and of a writer behind the first reply.
-const FAULTS: &[Case] = &[
-    Case {
+const FAULTS: &[HostileCase] = &[
+    HostileCase {
         lines: "{\"do\":\"table\"}\n{\"do\":\"ta",
         fails: true,
         room: 1000,
@@ -92,7 +92,7 @@ const FAULTS: &[Case] = &[
         then: "{\"do\":\"table\"}",
         refusal: 0,
     },
-    Case {
+    HostileCase {
         lines: "{\"do\":\"person.add\",\"name\":\"ann\"}\n{\"do\":\"person.add\",\"name\":\"bob\"}\n",
         fails: false,
         room: 25,
@@ -130,8 +130,8 @@ fn small() -> Limits
 
 /// As many names as make four cells; then a resource too many, and a person without a name. And one document; then one
 /// more, for a module that isn't there. That there is no room is told before everything else.
-const FULL: &[Case] = &[
-    Case {
+const FULL: &[HostileCase] = &[
+    HostileCase {
         lines: "{\"do\":\"person.add\",\"name\":\"ann\"}\n{\"do\":\"person.add\",\"name\":\"bob\"}\n\
                 {\"do\":\"action.add\",\"name\":\"read\"}\n{\"do\":\"action.add\",\"name\":\"write\"}\n\
                 {\"do\":\"resource.add\",\"name\":\"plan\"}\n{\"do\":\"resource.add\",\"name\":\"map\"}\n",
@@ -143,7 +143,7 @@ const FULL: &[Case] = &[
         then: "{\"do\":\"person.add\",\"name\":\"\"}",
         refusal: 9,
     },
-    Case {
+    HostileCase {
         lines: "{\"do\":\"policy.add\",\"document\":{\"Policy\":{\"PolicyId\":\"p\",\
                 \"RuleCombiningAlgId\":\"urn:oasis:names:tc:xacml:3.0:rule-combining-algorithm:permit-unless-deny\",\
                 \"Version\":\"1\"}}}\n",

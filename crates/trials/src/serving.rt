@@ -12,12 +12,12 @@ use std::test::Fail;
 
 /// A state that counts its lines: an accepted line has their number as its serial and its own length as its changes.
 #[derive(Drop)]
-struct Tally {
+struct LineTally {
     alloc: Global,
     lines: u64,
 }
 
-impl Answering for Tally {
+impl Answering for LineTally {
     ghost is_ready = { λ t. Unit {0} };
 
     ghost World = { Unit {0} };
@@ -128,7 +128,7 @@ fn served(
     step: usize,
     fails: bool,
 ) -> (Vec<u8>, Result<u64, ServeFault>, u64) {
-    let mut tally = Tally { alloc, lines: 0 };
+    let mut tally = LineTally { alloc, lines: 0 };
     let mut reader = Slow::new(text, step, fails);
     let mut out = Vec::new(alloc);
     let lines = serve(alloc, &mut tally, &mut reader, &mut out);
@@ -167,7 +167,7 @@ const FIVE_LOOKS: &[(&str, Result<u64, ServeFault>, u64)] = &[
 
 /// How serving a text ends within five looks, and how many lines were handled.
 fn within_five(alloc: Global, text: &str) -> (Result<u64, ServeFault>, u64) {
-    let mut tally = Tally { alloc, lines: 0 };
+    let mut tally = LineTally { alloc, lines: 0 };
     let mut reader = Slow::new(text.as_bytes(), 1000, false);
     let mut out = Vec::new(alloc);
     let lines = serve_within(alloc, &mut tally, &mut reader, &mut out, 5);
@@ -197,7 +197,7 @@ fn narrowed(
     room: usize,
     flushes: bool,
 ) -> (Vec<u8>, Result<u64, ServeFault>, u64) {
-    let mut tally = Tally { alloc, lines: 0 };
+    let mut tally = LineTally { alloc, lines: 0 };
     let mut reader = Slow::new(text.as_bytes(), 9, false);
     let mut narrow = Narrow {
         taken: Vec::new(alloc),
@@ -299,7 +299,7 @@ impl Write for Holding<'_> {
 /// before the call ended, and how many lines they have.
 fn is_in_time(alloc: Global, text: &str, step: usize, looks: u32) -> (bool, u64) {
     let held = RefCell::new(Vec::new(alloc));
-    let mut tally = Tally { alloc, lines: 0 };
+    let mut tally = LineTally { alloc, lines: 0 };
     let mut reader = Waiting {
         text: text.as_bytes(),
         step,

@@ -4,7 +4,7 @@ use Rattle.std.specs.List.{AllByRecursion}
 use Rattle.ent_values.specs.Bags.{Contents}
 use Rattle.ent_evaluator.specs.declared.case.Case.{Case}
 use Rattle.ent_evaluator.specs.declared.cases.Cases.{Cases}
-use Rattle.ent_evaluator.specs.declared.tests.Tests.{Tests}
+use Rattle.ent_evaluator.specs.declared.tests.PlanTests.{PlanTests}
 use Rattle.ent_request.specs.declared.question.Question.{Question}
 use Rattle.ent_request.specs.declared.request.Request.{Request}
 pub use Rattle.ent_eval.specs.Evaluated.{IsEvaluated}
@@ -22,7 +22,7 @@ pub record AreNamed (looks : Looks) (questions : List Question) (found : Finding
   pub resource : IsAt found.resources which
 
 -- what is known of tests is so, by some bags
-abbrev pub HasTests : Looks → List Question → Tests → Type 0
+abbrev pub HasTests : Looks → List Question → PlanTests → Type 0
 HasTests looks questions t = (bags : List Contents) × AreTests looks questions bags t
 
 -- none of these cases fits a request

@@ -6,7 +6,7 @@ use Rattle.std.specs.Option.{option_map}
 use Rattle.std.specs.Ordering.{nat_cmp}
 use Rattle.slab.specs.Slab.{Slab, get}
 use Rattle.ent_index.specs.declared.group.Group.{Group}
-use Rattle.ent_index.specs.declared.names.Names.{Names}
+use Rattle.ent_index.specs.declared.names.NameCells.{NameCells}
 use Rattle.ent_index.specs.Groups.{is_member}
 
 -- there is a group under this number, and its questions have these
@@ -33,5 +33,5 @@ IsEmptied None = Unit {0}
 IsEmptied (Some g) = g.cells ≡ []
 
 -- the cells under a name, if it has any
-abbrev pub roll_under : Names → List ℕ → Option (List ℕ)
+abbrev pub roll_under : NameCells → List ℕ → Option (List ℕ)
 roll_under names name = tree.get (slice_cmp nat_cmp) names.rolls name

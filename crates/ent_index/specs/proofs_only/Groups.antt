@@ -3,13 +3,13 @@ use Rattle.std.specs.Prelude.{◌≡◌, ◌||◌, ℕ, List, Option, None, Some
 use Rattle.std.specs.List.{list_any}
 use Rattle.ent_request.specs.declared.key.ReadKey.{ReadKey}
 use Rattle.ent_request.specs.declared.question.Question.{Question}
-use Rattle.ent_request.specs.declared.readers.Place.{Place}
-use Rattle.ent_request.specs.declared.readers.Place.TheVariants.{Person, Action, Resource}
+use Rattle.ent_request.specs.declared.readers.NamePlace.{NamePlace}
+use Rattle.ent_request.specs.declared.readers.NamePlace.TheVariants.{Person, Action, Resource}
 use Rattle.ent_request.specs.Listed.{listed}
 use Rattle.ent_request.specs.Noted.{has_key}
 use Rattle.ent_request.specs.Questions.{AreNumbers, at_numbers, keys_at}
 use Rattle.ent_index.specs.declared.groups.Groups.{Groups}
-use Rattle.ent_index.specs.declared.names.Names.{Names}
+use Rattle.ent_index.specs.declared.names.NameCells.{NameCells}
 use Rattle.ent_index.specs.declared.wanted.Wanted.{Wanted}
 use Rattle.ent_index.specs.Groups.{IsNamed, holds, is_among, is_member, is_wanted, numbers_of}
 
@@ -35,7 +35,7 @@ CoversOne groups w all = (person action resource : List ℕ) (g c : ℕ) → IsN
     → is_wanted person action resource (numbers_of groups g) w ≡ true → is_member all c ≡ true
 
 -- the names at a place
-abbrev pub names_at : Place → Groups → Names
+abbrev pub names_at : NamePlace → Groups → NameCells
 names_at Person groups = groups.persons
 names_at Action groups = groups.actions
 names_at Resource groups = groups.resources

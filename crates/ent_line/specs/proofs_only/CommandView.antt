@@ -7,16 +7,16 @@ use Rattle.ent_polform.specs.Objects.{must, need}
 use Rattle.ent_line.specs.Asked as asked
 use Rattle.ent_line.specs.Keys as keys
 use Rattle.ent_line.specs.Wanted as wanted
-use Rattle.ent_line.specs.declared.command.Change.{Change}
-use Rattle.ent_line.specs.declared.command.Change.TheVariants.{AddName, DropName, AddPolicy, ReplacePolicy, WithdrawPolicy, SetAttribute, SetRoot, SetDay, SetMoment}
+use Rattle.ent_line.specs.declared.command.EditCommand.{EditCommand}
+use Rattle.ent_line.specs.declared.command.EditCommand.TheVariants.{AddName, DropName, AddPolicy, ReplacePolicy, WithdrawPolicy, SetAttribute, SetRoot, SetDay, SetMoment}
 use Rattle.ent_line.specs.declared.command.Command as command
 use Rattle.ent_line.specs.declared.command.Command.TheVariants as commands
-use Rattle.ent_line.specs.declared.command.Question.{Question}
-use Rattle.ent_line.specs.declared.command.Question.TheVariants.{Table, Cell, Ask, Counts, Can, Who, ByRule, Notices, Changes, Work, Format, Dump, State, Cells, Attributes, Documents, ExplainCell, Explain, Faults, Limits, Names}
+use Rattle.ent_line.specs.declared.command.QuestionCommand.{QuestionCommand}
+use Rattle.ent_line.specs.declared.command.QuestionCommand.TheVariants.{Table, Cell, Ask, Counts, Can, Who, ByRule, Notices, Changes, Work, Format, Dump, State, Cells, Attributes, Documents, ExplainCell, Explain, Faults, Limits, Names}
 use Rattle.ent_line.specs.declared.keys.AskedRow.{AskedRow}
 use Rattle.ent_line.specs.declared.refusal.Refusal.{Refusal}
 use Rattle.ent_line.specs.declared.refusal.Refusal.TheVariants.{Shape}
-use Rattle.ent_line.specs.declared.wanted.Wanted.{Wanted}
+use Rattle.ent_line.specs.declared.wanted.WantedCells.{WantedCells}
 use Rattle.ent_table.specs.Names.{triple_of}
 
 -- a row without where its parts lie in memory
@@ -31,7 +31,7 @@ row_view content row = record {
 }
 
 -- a change without where its parts lie in memory
-abbrev pub change_view : {J : Type 0} → (J → Data) → Change J → asked.Change
+abbrev pub change_view : {J : Type 0} → (J → Data) → EditCommand J → asked.Change
 change_view content (AddName list name) = asked.add_name list name.now
 change_view content (DropName list name) = asked.drop_name list name.now
 change_view content (AddPolicy number document) = asked.add_policy number (content document.now)
@@ -43,7 +43,7 @@ change_view content (SetDay day) = asked.set_day (option_copied day)
 change_view content (SetMoment moment) = asked.set_moment (option_copied moment)
 
 -- which cells are asked for, without where its parts lie in memory
-abbrev pub wanted_view : {J : Type 0} → (J → Data) → Wanted J → wanted.Wanted
+abbrev pub wanted_view : {J : Type 0} → (J → Data) → WantedCells J → wanted.Wanted
 wanted_view content w = record {
   person = option_copied w.person;
   action = option_copied w.action;
@@ -52,7 +52,7 @@ wanted_view content w = record {
 }
 
 -- a question without where its parts lie in memory
-abbrev pub question_view : {J : Type 0} → (J → Data) → Question J → asked.Question
+abbrev pub question_view : {J : Type 0} → (J → Data) → QuestionCommand J → asked.Question
 question_view content Table = asked.table
 question_view content (Cell person action resource) = asked.cell (triple_of person.now action.now resource.now)
 question_view content (Ask request) = asked.ask (content request.now)

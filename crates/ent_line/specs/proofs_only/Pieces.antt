@@ -3,8 +3,8 @@ use Rattle.std.specs.Prelude.{◌≡◌, ℕ, ◌+◌, List, [], ◌++◌, Optio
 use Rattle.std.specs.Io.KnownBytes.{Consumes, IsAtEnd}
 use Rattle.ent_line.specs.declared.fault.ServeFault.{ServeFault}
 use Rattle.ent_line.specs.declared.fault.ServeFault.TheVariants.{Read}
-use Rattle.ent_line.specs.declared.input.Piece.{Piece}
-use Rattle.ent_line.specs.declared.input.Piece.TheVariants.{End, Part, Line}
+use Rattle.ent_line.specs.declared.input.InputPiece.{InputPiece}
+use Rattle.ent_line.specs.declared.input.InputPiece.TheVariants.{End, Part, Line}
 use Rattle.ent_line.specs.Lines.{NoNewline, ended, line_limit}
 use Rattle.ent_line.specs.Pieces.{Sends}
 use Rattle.ent_line.specs.Replies.{Answer, line_of}
@@ -15,7 +15,7 @@ abbrev pub kept_of : List ℕ → List ℕ
 kept_of line = take (line_limit + 1) line
 
 -- what one look at the reader does: the reader's bytes before and after, and what was kept of the line before and after
-abbrev pub TakesPiece : Option (List ℕ) → Option (List ℕ) → List ℕ → List ℕ → Result Piece ServeFault → Type 0
+abbrev pub TakesPiece : Option (List ℕ) → Option (List ℕ) → List ℕ → List ℕ → Result InputPiece ServeFault → Type 0
 -- nothing was left to read
 TakesPiece before after old new (Ok End) = Consumes before after [] × OnSome before (IsAtEnd after) × (new ≡ old)
 -- some bytes of the line were read, and not its newline

@@ -11,7 +11,7 @@ use Rattle.ent_finder.specs.declared.row.RowKey.{RowKey}
 use Rattle.ent_json.specs.Text.{tokens_of}
 use Rattle.ent_telling.specs.Attributes.{is_of_entity, row_data}
 use Rattle.ent_telling.specs.Documents.{document_data}
-use Rattle.lint_reach.specs.declared.place.Place.{Place}
+use Rattle.lint_reach.specs.declared.place.DocPlace.{DocPlace}
 
 -- the tokens of several values, one after the other
 abbrev pub each_tokens : List Data → List Token
@@ -22,7 +22,7 @@ abbrev pub is_asked : Option (List ℕ) → DocKey → Bool
 is_asked id key = option_map_or (bytes_eq key.id) id true
 
 -- what is told of a slot
-abbrev pub slot_data : (Place → Bool) → Option (List ℕ) → ℕ → DocKey × Option Tree → List Data
+abbrev pub slot_data : (DocPlace → Bool) → Option (List ℕ) → ℕ → DocKey × Option Tree → List Data
 slot_data reached id number (key, None) = []
 slot_data reached id number (key, Some document) = if is_asked id key then document_data reached (is_some id) (number, key, document) ∷ [] else []
 

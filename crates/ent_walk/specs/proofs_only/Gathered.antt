@@ -9,7 +9,7 @@ use Rattle.ent_policy.specs.declared.key.DocKey.{DocKey}
 use Rattle.ent_request.specs.declared.answer.Answer.{Answer}
 use Rattle.ent_request.specs.declared.answer.Status.{Status}
 use Rattle.ent_walk.specs.declared.gather.Gathering.{Gathering}
-use Rattle.ent_walk.specs.declared.told.Told.{Told}
+use Rattle.ent_walk.specs.declared.told.ToldChildren.{ToldChildren}
 use Rattle.ent_walk.specs.Judged.{decisions, default_why, first_status, judged, told_by}
 
 -- the status of the first Indeterminate, with one more child
@@ -23,11 +23,11 @@ abbrev pub judged_by : List DocKey → RuleAlg → List Answer → Answer
 judged_by here algorithm seen = judged here algorithm (combine algorithm (decisions seen)) seen
 
 -- what children told, with one child more that has their decision
-abbrev pub told_more : Told → Told → Told
+abbrev pub told_more : ToldChildren → ToldChildren → ToldChildren
 told_more told more = record { any = true; why = told.why ++ more.why; obligations = told.obligations ++ more.obligations; advice = told.advice ++ more.advice }
 
 -- what children told, followed by the entry of the element at the end of a path, where that decides by default
-abbrev pub told_at : List DocKey → RuleAlg → Told → Told
+abbrev pub told_at : List DocKey → RuleAlg → ToldChildren → ToldChildren
 told_at here algorithm told = record told { why = told.why ++ default_why here algorithm told.any }
 
 -- these children were gathered

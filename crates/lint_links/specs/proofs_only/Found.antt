@@ -8,7 +8,7 @@ use Rattle.ent_policy.specs.contracts.key.ReferenceOrd.TheImpl as order
 use Rattle.ent_policy.specs.declared.key.Reference.{Reference}
 use Rattle.ent_finder.specs.Finding.{most_recent}
 use Rattle.ent_finder.specs.Slots.{Docs}
-use Rattle.lint_links.specs.declared.found.Found.{Found}
+use Rattle.lint_links.specs.declared.found.FoundDocuments.{FoundDocuments}
 use Rattle.lint_links.specs.proofs_only.Rows.{numbered}
 
 -- the order of references
@@ -21,6 +21,6 @@ IsFound docs reference number =
     option_map (numbered (entries docs)) number ≡ option_map Some (most_recent reference docs)
 
 -- each number that is known is the right one
-abbrev pub AreFound : Docs → Found → Type 0
+abbrev pub AreFound : Docs → FoundDocuments → Type 0
 AreFound docs f = (reference : Reference) (number : Option ℕ) → get reference_cmp f.numbers reference ≡ Some number
     → IsFound docs reference number

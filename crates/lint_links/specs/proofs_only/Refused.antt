@@ -1,11 +1,11 @@
 -- Which refusals say that a line is none of a dump.
-use Rattle.lint_links.specs.declared.state.LineFault.{LineFault}
-use Rattle.lint_links.specs.declared.state.LineFault.TheVariants as line
+use Rattle.lint_links.specs.declared.state.StateLineFault.{StateLineFault}
+use Rattle.lint_links.specs.declared.state.StateLineFault.TheVariants as line
 use Rattle.lint_links.specs.declared.state.StateFault.{StateFault}
 use Rattle.lint_links.specs.declared.state.StateFault.TheVariants as state
 
 -- of a line
-abbrev pub IsNotOfDump : LineFault → Type 0
+abbrev pub IsNotOfDump : StateLineFault → Type 0
 IsNotOfDump line.NotDump = Unit {0}
 IsNotOfDump line.Memory = ⊥
 

@@ -1,7 +1,7 @@
 -- Places in the one module that holds all documents.
 use Rattle.ent_policy.specs.declared.key.DocKey.{DocKey}
-use Rattle.lint_reach.specs.declared.place.Place.{Place}
+use Rattle.lint_reach.specs.declared.place.DocPlace.{DocPlace}
 
 -- the place of a key
-abbrev pub place_of : DocKey → Place
+abbrev pub place_of : DocKey → DocPlace
 place_of key = record { number = 0; key = key }

@@ -6,9 +6,9 @@ use Rattle.ent_request.specs.declared.request.Request.{Request}
 use Rattle.memo_heard.specs.Heard.{Came}
 use Rattle.memo_bags.specs.proofs_only.Ready.{Begins}
 use Rattle.memo_plan.specs.Plan.{Scene, task_came}
-use Rattle.memo_plan.specs.declared.task.Task.{Task}
+use Rattle.memo_plan.specs.declared.task.TestTask.{TestTask}
 use Rattle.memo_tests.specs.Tested.{came_of}
-use Rattle.memo_tests.specs.declared.outcome.Outcome.{Outcome}
+use Rattle.memo_tests.specs.declared.outcome.TestOutcome.{TestOutcome}
 use Rattle.memo_tests.specs.declared.test.Test.{Test}
 use Rattle.memo_answers.specs.Known.{AreKnown, StandsThere, TellsIn}
 use Rattle.memo_answers.specs.declared.signing.Signing.{Signing}
@@ -27,12 +27,12 @@ pub record IsSigning {L : Type 0} (looks : L → Looks) (s : Signing L) : Type 0
   pub request : IfSome s.request (λ r. r ≡ request_of s)
 
 -- this test stands at a place, and it is so
-abbrev pub HasTest : {L : Type 0} → (L → Looks) → Signing L → ℕ → Task → Type 0
+abbrev pub HasTest : {L : Type 0} → (L → Looks) → Signing L → ℕ → TestTask → Type 0
 HasTest looks s place t = IsSigning looks s × StandsThere s.entries.now place t
 
 -- an outcome is what came of the test that stands at a place
-abbrev pub CameThere : {L : Type 0} → (L → Looks) → Signing L → ℕ → Outcome → Type 0
-CameThere looks s place o = (t : Task) × (HasTest looks s place t × (task_came t (scene_of looks s) ≡ came_of s.questions o))
+abbrev pub CameThere : {L : Type 0} → (L → Looks) → Signing L → ℕ → TestOutcome → Type 0
+CameThere looks s place o = (t : TestTask) × (HasTest looks s place t × (task_came t (scene_of looks s) ≡ came_of s.questions o))
 
 -- the outcome of that number of the test at a place is this
 abbrev pub TellsAt : {L : Type 0} → Signing L → ℕ → ℕ → Came → Type 0

@@ -8,10 +8,10 @@ use Rattle.ent_values.specs.declared.value.Value.{Value}
 use Rattle.ent_values.specs.declared.value.Value.TheVariants as value
 use Rattle.memo_bags.specs.declared.finding.Finding.{Finding}
 use Rattle.memo_bags.specs.declared.findings.Findings.{Findings}
-use Rattle.memo_bags.specs.declared.names.Names.{Names}
-use Rattle.memo_bags.specs.declared.names.Row.{Row}
+use Rattle.memo_bags.specs.declared.names.NameRows.{NameRows}
+use Rattle.memo_bags.specs.declared.names.NameRow.{NameRow}
 use Rattle.ent_request.specs.declared.question.Question.{Question}
-use Rattle.ent_request.specs.declared.readers.Place.{Place}
+use Rattle.ent_request.specs.declared.readers.NamePlace.{NamePlace}
 use Rattle.ent_request.specs.declared.request.Request.{Request}
 use Rattle.memo_bags.specs.declared.scene.Scene.{Scene}
 use Rattle.ent_walk.specs.Law.{FindsSame}
@@ -81,46 +81,46 @@ pub record KeepsReady {L : Type 0} (looks : Looks) (scene : Scene L) (old new : 
   pub begins : Begins new.bags old.bags
 
 -- rows were added for which nothing is known
-abbrev pub AddsRows : List Row → List Row → Type 0
-AddsRows old new = (more : List Row) × ((new ≡ old ++ more) × AllByRecursion (λ r. r.found.items ≡ []) more)
+abbrev pub AddsRows : List NameRow → List NameRow → Type 0
+AddsRows old new = (more : List NameRow) × ((new ≡ old ++ more) × AllByRecursion (λ r. r.found.items ≡ []) more)
 
 -- the bag of that number is known of a question
-abbrev pub Knows : Row → ℕ → ℕ → Type 0
+abbrev pub Knows : NameRow → ℕ → ℕ → Type 0
 Knows row question bag = slice_get row.found.items question ≡ Some (Some bag)
 
 -- what is known in the latest row
-abbrev pub KnowsLatest : Names → ℕ → ℕ → Type 0
-KnowsLatest names question bag = (row : Row) × ((slice_get names.rows.items names.latest ≡ Some row) × Knows row question bag)
+abbrev pub KnowsLatest : NameRows → ℕ → ℕ → Type 0
+KnowsLatest names question bag = (row : NameRow) × ((slice_get names.rows.items names.latest ≡ Some row) × Knows row question bag)
 
 -- a row of the same name, of which nothing more is known than the bag of one question
-abbrev pub LearnsAtMost : Row → Row → ℕ → ℕ → Type 0
+abbrev pub LearnsAtMost : NameRow → NameRow → ℕ → ℕ → Type 0
 LearnsAtMost old new question bag = (new.name ≡ old.name) × ((n k : ℕ) → Knows new n k → Knows old n k ⊎ ((n ≡ question) × (k ≡ bag)))
 
 -- the same rows, of which the latest may know the bag of that question
-abbrev pub LearnsLatest : Names → Names → ℕ → ℕ → Type 0
-LearnsLatest old new question bag = (row : Row) × ((next : Row) × ((new.latest ≡ old.latest)
+abbrev pub LearnsLatest : NameRows → NameRows → ℕ → ℕ → Type 0
+LearnsLatest old new question bag = (row : NameRow) × ((next : NameRow) × ((new.latest ≡ old.latest)
     × ((slice_get old.rows.items old.latest ≡ Some row) × ((new.rows.items ≡ slice_set old.rows.items old.latest next) × LearnsAtMost row next question bag))))
 
 -- no row is that of a name
-abbrev pub HasNone : List Row → List ℕ → Type 0
-HasNone rows name = (place : ℕ) (row : Row) → slice_get rows place ≡ Some row → row.name ≢ name
+abbrev pub HasNone : List NameRow → List ℕ → Type 0
+HasNone rows name = (place : ℕ) (row : NameRow) → slice_get rows place ≡ Some row → row.name ≢ name
 
 -- nothing is known of a row, or it is of another name, and is as it was
-abbrev pub IsForgotten : List ℕ → List Row → ℕ → Row → Type 0
+abbrev pub IsForgotten : List ℕ → List NameRow → ℕ → NameRow → Type 0
 IsForgotten name old place row = (row.found.items ≡ []) ⊎ ((row.name ≢ name) × (slice_get old place ≡ Some row))
 
 -- so is each row
-abbrev pub ForgetsName : List ℕ → List Row → List Row → Type 0
-ForgetsName name old new = (place : ℕ) (row : Row) → slice_get new place ≡ Some row → IsForgotten name old place row
+abbrev pub ForgetsName : List ℕ → List NameRow → List NameRow → Type 0
+ForgetsName name old new = (place : ℕ) (row : NameRow) → slice_get new place ≡ Some row → IsForgotten name old place row
 
 -- each row is one of a place's names
-abbrev pub AreRows : Looks → List Question → List Contents → Place → Names → Type 0
+abbrev pub AreRows : Looks → List Question → List Contents → NamePlace → NameRows → Type 0
 AreRows looks questions bags place names = AllByRecursion (IsRow looks questions bags place) names.rows.items
 
 -- ---- what is found
 
 -- whoever else is named, a question finds a bag for a name
-abbrev pub FindsForName : Looks → List Question → List Contents → Place → List ℕ → ℕ → ℕ → Type 0
+abbrev pub FindsForName : Looks → List Question → List Contents → NamePlace → List ℕ → ℕ → ℕ → Type 0
 FindsForName looks questions bags place name question bag = (person action resource : List ℕ) → name_at place person action resource ≡ name
     → FindsBag looks questions bags (listed person action resource) question bag
 
@@ -132,7 +132,7 @@ FindsAll looks questions bags request found = AllByRecursion (λ f. FindsBag loo
 abbrev pub NotesFinding : Looks → List Question → List Contents → Request → ℕ → List Finding → List Finding → Type 0
 NotesFinding looks questions bags request n old new =
     ((new ≡ old) × ((x : Question) → slice_get questions n ≡ Some x → place_of x ≡ None))
-    ⊎ ((place : Place) × ((bag : ℕ) × (IsAbout questions n place × (FindsBag looks questions bags request n bag × (new ≡ old ++ record { question = n; place = place; bag = bag } ∷ [])))))
+    ⊎ ((place : NamePlace) × ((bag : ℕ) × (IsAbout questions n place × (FindsBag looks questions bags request n bag × (new ≡ old ++ record { question = n; place = place; bag = bag } ∷ [])))))
 
 -- what is found tells what all of these questions find for a listed request, where they found it for this one
 abbrev pub TellsAll : Looks → List Question → List Contents → Request → List ℕ → List Finding → Type 0

@@ -19,8 +19,8 @@ use Rattle.memo_plan.specs.Run.{IsSegment}
 use Rattle.memo_plan.specs.declared.task.Entry.{Entry}
 use Rattle.memo_plan.specs.declared.task.Item.{Item}
 use Rattle.memo_plan.specs.declared.task.Item.TheVariants as item
-use Rattle.memo_plan.specs.declared.task.Task.{Task}
-use Rattle.memo_plan.specs.declared.task.Task.TheVariants as task
+use Rattle.memo_plan.specs.declared.task.TestTask.{TestTask}
+use Rattle.memo_plan.specs.declared.task.TestTask.TheVariants as task
 use Rattle.memo_plan.specs.declared.task.Within.{Within}
 
 -- entries list this, whatever stands behind them, for as long as each reference names an equal document
@@ -39,7 +39,7 @@ abbrev pub entry : Item → ℕ → Entry
 entry i skip = record { item = i; skip = skip }
 
 -- of a test
-abbrev pub test_entry : Task → ℕ → Entry
+abbrev pub test_entry : TestTask → ℕ → Entry
 test_entry t skip = entry (item.Test t) skip
 
 -- of a rule

@@ -23,7 +23,7 @@ use Rattle.memo_tests.specs.Tested.{came_of}
 use Rattle.memo_answers.specs.Known.{TellsIn}
 use Rattle.memo_replay.specs.declared.over.Next.{Next}
 use Rattle.memo_replay.specs.declared.over.Over.{Over}
-use Rattle.memo_replay.specs.declared.state.State.{State}
+use Rattle.memo_replay.specs.declared.state.JoinState.{JoinState}
 use Rattle.memo_replay.specs.proofs_only.Heard.{HearsMore, joined}
 
 module _ {L : Type 0} (over : Over L) where
@@ -37,7 +37,7 @@ module _ {L : Type 0} (over : Over L) where
     pub came : CameBy is_test constant (TellsIn questions_of over.tests.now) goes_on skip_of place 0 (drop place over.entries.now) (drop at over.way.now) cs
 
   -- so it does from where a state stands
-  abbrev pub Stands : State → List Came → Type 0
+  abbrev pub Stands : JoinState → List Came → Type 0
   Stands s cs = StandsFrom s.place s.at cs
 
   -- an outcome tells what comes first, and behind it the rest comes of the tests
@@ -47,19 +47,19 @@ module _ {L : Type 0} (over : Over L) where
     pub rest : StandsFrom (place + 1 + n.passed) (at + 1) cs
 
   -- this was heard more, and then the rest comes of the tests
-  abbrev pub Goes : State → State → Gist → List Came → Type 0
+  abbrev pub Goes : JoinState → JoinState → Gist → List Came → Type 0
   Goes before after g cs = HearsMore questions_of g before after × Stands after cs
 
   -- where these come first, a part is joined of them, and its value is this
-  abbrev pub Joins : List Came → Part Answer → State → State → Answer → Type 0
+  abbrev pub Joins : List Came → Part Answer → JoinState → JoinState → Answer → Type 0
   Joins tests part before after a = (cs : List Came) → Stands before (tests ++ cs) → (a ≡ part.value) × Goes before after (gist_of part.notes) cs
 
   -- where these come first, they are passed
-  abbrev pub Passes : List Came → State → State → Type 0
+  abbrev pub Passes : List Came → JoinState → JoinState → Type 0
   Passes tests before after = (cs : List Came) → Stands before (tests ++ cs) → Stands after cs
 
   -- where these come first, what is heard is joined of them, and gathered
-  abbrev pub TakesPart : List Came → Heard Answer → State → State → Gathering → Gathering → Progress → Type 0
+  abbrev pub TakesPart : List Came → Heard Answer → JoinState → JoinState → Gathering → Gathering → Progress → Type 0
   TakesPart tests h before after old new p = (cs : List Came) → Stands before (tests ++ cs)
       → Gathers old new h.value × (Tells old h.value p × Goes before after h.gist cs)
 

@@ -8,12 +8,12 @@ use Rattle.memo_heard.specs.Heard.{Came}
 use Rattle.memo_bags.specs.declared.finding.Finding.{Finding}
 use Rattle.memo_bags.specs.Ways.{way_of}
 use Rattle.memo_bags.specs.proofs_only.Led.{AreAbout}
-use Rattle.memo_tests.specs.declared.outcome.Outcome.{Outcome}
+use Rattle.memo_tests.specs.declared.outcome.TestOutcome.{TestOutcome}
 use Rattle.memo_tests.specs.declared.test.Test.{Test}
 use Rattle.memo_tests.specs.Tested.{IsTest, Tells}
 
 -- whatever test this was, it still is, where the way of what was found tells the outcome of that number
 abbrev pub LeadsTo : List Finding → ℕ → Test → Test → Type 0
-LeadsTo found n before after = (at : Looks) (questions : List Question) (bags : List Contents) (test : Looks → Request → Came) (o : Outcome)
+LeadsTo found n before after = (at : Looks) (questions : List Question) (bags : List Contents) (test : Looks → Request → Came) (o : TestOutcome)
     → AreAbout questions found → slice_get before.outcomes.items n ≡ Some o → Tells at questions bags test (way_of found) o
     → IsTest at questions bags test before → IsTest at questions bags test after

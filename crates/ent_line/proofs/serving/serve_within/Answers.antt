@@ -1,6 +1,6 @@
 use Rattle.std.proofs.Common.{◌≡◌, ◌∙◌, vec_len, true≢false, eq-eqb, length, eqb-true, sym, arith}
 use Rattle.std.proofs.lemmas.Result.{err_from_is_err_and}
-use Rattle.ent_line.specs.declared.input.Piece.TheVariants.{End, Part, Line}
+use Rattle.ent_line.specs.declared.input.InputPiece.TheVariants.{End, Part, Line}
 use Rattle.ent_line.proofs.ServeLemmas.{ends, took, begins, after_part, after_line, stops_at_fault, stops_at_end, last_is_answered, last_breaks, line_breaks}
 use Rattle.ent_line.proofs.serving.serve_within.Goals.{in-Part, in-Line+in_ok-answer_line-in-Line}
 use Rattle.ent_line.proofs.serving.serve_within.Goals as goal

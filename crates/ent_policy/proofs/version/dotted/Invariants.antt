@@ -7,5 +7,5 @@ invariant-loop-piece g l = record {
   counted : l.count ≡ length l.yielded;
   room : length l.parts ≡ 8;
   few : l.count ≤ 8;
-  read : all_there (map g.P.Piece.spelled (take l.count (pieces l.text))) ≡ Some (take l.count l.parts);
+  read : all_there (map g.P.VersionPiece.spelled (take l.count (pieces l.text))) ≡ Some (take l.count l.parts);
 }

@@ -7,5 +7,5 @@ pub loop-place-preserved : goal.loop-place-preserved
 loop-place-preserved g c =
     let piece = c.as_str.ensures.value ∙ c.in_ok-piece.ensures in
     let put = c.in_ok-push_piece.ensures ∙ ap (λ p. string_bytes c.loop-place.text ++ behind_dot c.loop-place.place p) piece in
-    grows g.P.Piece.spelling c.args.parts.now c.loop-place.place c.index-parts-place.result (string_bytes c.loop-place.text)
+    grows g.P.VersionPiece.spelling c.args.parts.now c.loop-place.place c.index-parts-place.result (string_bytes c.loop-place.text)
     (string_bytes c.push_piece.new.text) c.loop-place-test.true c.index-parts-place.is c.loop-place.invariant put

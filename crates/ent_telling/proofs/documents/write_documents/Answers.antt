@@ -7,7 +7,7 @@ use Rattle.ent_finder.specs.Slots.{held}
 use Rattle.ent_json.specs.Text.{tokens_of}
 use Rattle.ent_polform.proofs.TextLemmas.{ends}
 use Rattle.lint_reach.specs.Reached.{has_place, is_reached}
-use Rattle.lint_reach.specs.declared.place.Place.{Place}
+use Rattle.lint_reach.specs.declared.place.DocPlace.{DocPlace}
 use Rattle.ent_telling.specs.Documents.{document_data, documents, documents_data}
 use Rattle.ent_telling.specs.proofs_only.Walk.{each_tokens}
 use Rattle.ent_telling.proofs.Told.{reached_told, reply_tokens, said}
@@ -18,7 +18,7 @@ returns g c =
     let all = held_by c.args.pdp.now in
     let id = option_copied c.args.id in
     let places = c.in_ok-reached.reached in
-    let same : (place : Place) → has_place place places ≡ is_reached all.modules all.root place =
+    let same : (place : DocPlace) → has_place place places ≡ is_reached all.modules all.root place =
     λ place. c.in_ok-reached.ensures place ∙ (λ i. is_reached (map held (c.policies.ensures i)) (c.root.ensures i) place) in
     let told = map (document_data (λ p. has_place p places) (is_some id)) (documents id all.modules) in
     let whole : (token.begin_object ∷ token.key (codes "documents") ∷ token.begin_array ∷ []) ++ (each_tokens told ++ token.end_array ∷ token.end_object ∷ [])

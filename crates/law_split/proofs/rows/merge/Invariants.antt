@@ -5,4 +5,4 @@ use Rattle.law_split.proofs.rows.merge.Given as goal
 
 abbrev pub invariant-loop-person : goal.invariant-loop-person
 invariant-loop-person g l =
-    l.found.items ≡ merged g.R.Row.person (take l.person-index l.order) (flat_map (λ list. list) l.lists)
+    l.found.items ≡ merged g.R.ReportRow.person (take l.person-index l.order) (flat_map (λ list. list) l.lists)

@@ -3,7 +3,7 @@ use Rattle.ent_request.specs.Questions.{BeginsWith}
 use Rattle.memo_bags.specs.declared.findings.Findings.{Findings}
 use Rattle.memo_bags.specs.proofs_only.Ready.{Begins}
 use Rattle.memo_answers.specs.Known.{TellsIn}
-use Rattle.memo_answers.specs.declared.tests.Tests.{Tests}
+use Rattle.memo_answers.specs.declared.tests.EntryTests.{EntryTests}
 use Rattle.memo_answers.proofs.Follow.{follows_tells, signing_begins, signing_ends}
 use Rattle.memo_answers.proofs.way.way_of.Goals as goal
 
@@ -32,4 +32,4 @@ pub returns-clause-tells : goal.returns-clause-tells
 returns-clause-tells g c = λ place n came tells.
     follows_tells g.L.LookUps.looks _ c.sign-signed.new.self c.sign-signed.ensures.follows place n came
     (subst (λ qs. TellsIn qs c.replace-3.result.list.items place n came) (sym c.replace.ensures.value)
-    (subst (λ (t : Tests). TellsIn c.args.questions.now t.list.items place n came) (sym c.replace-3.ensures.value) tells))
+    (subst (λ (t : EntryTests). TellsIn c.args.questions.now t.list.items place n came) (sym c.replace-3.ensures.value) tells))

@@ -1,7 +1,7 @@
 use Rattle.std.proofs.Common.{◌≡◌, None, Some, get_or, slice_get, subst, sym, ◌∙◌}
 use Rattle.std.specs.Prelude.{IfSome}
 use Rattle.std.proofs.lemmas.Option.{slice_get-get_or}
-use Rattle.ent_request.specs.declared.readers.Place.TheVariants.{Person}
+use Rattle.ent_request.specs.declared.readers.NamePlace.TheVariants.{Person}
 use Rattle.memo_bags.specs.declared.finding.Finding.{Finding}
 use Rattle.memo_bags.specs.proofs_only.Led.{GoesFree, LeadsOn}
 use Rattle.memo_bags.proofs.MakingWays.{asks_begun, asks_more, before_then, begun, making_first, making_next}

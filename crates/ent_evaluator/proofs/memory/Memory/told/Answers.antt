@@ -1,7 +1,7 @@
 use Rattle.std.proofs.Common.{ap, subst, sym}
 use Rattle.std.specs.Prelude.{IfSome}
 use Rattle.ent_evaluator.specs.Tests.{IsSigned}
-use Rattle.ent_evaluator.specs.declared.tests.Tests.{Tests}
+use Rattle.ent_evaluator.specs.declared.tests.PlanTests.{PlanTests}
 use Rattle.ent_evaluator.specs.proofs_only.Remembered.{IsEvaluated}
 use Rattle.ent_evaluator.proofs.TestsKept.{tests_alike}
 use Rattle.ent_evaluator.proofs.memory.Memory.told.Goals as goal
@@ -14,8 +14,8 @@ pub returns-in-Some-clause-remembers : goal.returns-in-Some-clause-remembers
 returns-in-Some-clause-remembers c = λ looks questions has. record {
   findings = has.findings;
   cases = has.cases;
-  tests = tests_alike looks questions c.args.self.now.findings.bags c.args.self.now.tests c.count_hit.new.self (ap (λ (t : Tests). t.plan) c.count_hit.ensures)
-      (ap (λ (t : Tests). t.is_compared) c.count_hit.ensures) (ap (λ (t : Tests). t.learnt) c.count_hit.ensures) (ap (λ (t : Tests). t.cases) c.count_hit.ensures) has.tests;
+  tests = tests_alike looks questions c.args.self.now.findings.bags c.args.self.now.tests c.count_hit.new.self (ap (λ (t : PlanTests). t.plan) c.count_hit.ensures)
+      (ap (λ (t : PlanTests). t.is_compared) c.count_hit.ensures) (ap (λ (t : PlanTests). t.learnt) c.count_hit.ensures) (ap (λ (t : PlanTests). t.cases) c.count_hit.ensures) has.tests;
 }
 
 pub returns-in-Some-clause-signed : goal.returns-in-Some-clause-signed

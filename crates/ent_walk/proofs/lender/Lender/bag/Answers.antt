@@ -4,7 +4,7 @@ use Rattle.std.proofs.lemmas.Option.{slice_get-get_or}
 use Rattle.std.proofs.lemmas.Result.{IfOk-weaker}
 use Rattle.ent_values.specs.Bags.{Contents}
 use Rattle.ent_request.specs.Sources.{asked_of, designated_values, values_of}
-use Rattle.ent_walk.specs.declared.lender.Found.{Found}
+use Rattle.ent_walk.specs.declared.lender.FoundBag.{FoundBag}
 use Rattle.ent_request.specs.declared.question.Asked.{Asked}
 use Rattle.ent_walk.specs.proofs_only.Basis.{Basis}
 use Rattle.ent_walk.specs.proofs_only.Lender.{IsFound}
@@ -32,6 +32,6 @@ invariant_of-self-in_ok-push g c =
     let request = c.self.inside.request.now in
     let P = IsFound looks request in
     let found : Asked → Contents = λ a. record { datatype = a.datatype; values = values_of looks request a } in
-    let next : Found = record { asked = c.in_ok-asked.asked; bag = c.in_ok-copy.field-0 } in
+    let next : FoundBag = record { asked = c.in_ok-asked.asked; bag = c.in_ok-copy.field-0 } in
     let this : P next = c.in_ok-copy.ensures ∙ c.in_ok-bag.ensures ∙ ap found (sym c.in_ok-asked.ensures) in
     subst (AllByRecursion P) (sym c.in_ok-push.ensures.items) (all_append P c.self.inside.found.items (next ∷ []) c.self.invariant (this, tt))

@@ -5,7 +5,7 @@ use Rattle.memo_heard.specs.CameBy.{came_by}
 use Rattle.memo_heard.specs.Heard.{Gist}
 use Rattle.memo_bags.proofs.Growing.{some_same}
 use Rattle.memo_plan.specs.Plan.{task_goes_on}
-use Rattle.memo_tests.specs.declared.outcome.Outcome.{Outcome}
+use Rattle.memo_tests.specs.declared.outcome.TestOutcome.{TestOutcome}
 use Rattle.memo_answers.specs.proofs_only.Signing.{TellsAt}
 use Rattle.memo_answers.proofs.Kept.{outcome_there}
 use Rattle.memo_answers.proofs.signing.Signing.step_at.Goals as goal
@@ -31,11 +31,11 @@ returns-in-Ok g c = λ came tells.
     let at = slice_get_read tests (length tests) c.args.place test refl (slice_get_within tests c.args.place tells.0 tells.1.0) c.index.ensures in
     let there = outcome_there s.questions tests c.args.place c.args.number came test tells at in
     let outcomes = test.outcomes.items in
-    let o : Outcome = c.index-in-Ok.result.now in
+    let o : TestOutcome = c.index-in-Ok.result.now in
     let read : slice_get outcomes c.args.number ≡ Some o = slice_get_read outcomes (length outcomes) c.args.number o refl (slice_get_within outcomes c.args.number there.0 there.1.0) c.index-in-Ok.ensures in
     let same : o ≡ there.0 = some_same o there.0 (sym read ∙ there.1.0) in
     let gist : Gist = record { questions = at_numbers s.questions there.0.asked; failed = there.0.failed } in
     record {
       number = subst (λ n. TellsAt s c.args.place n came) (sym c.in-Ok.ensures.1) tells;
-      goes_on = c.goes_on.ensures gist ∙ ap (λ (v : Outcome). task_goes_on task (came_by v.tested gist)) same ∙ ap (task_goes_on task) (sym there.1.1);
+      goes_on = c.goes_on.ensures gist ∙ ap (λ (v : TestOutcome). task_goes_on task (came_by v.tested gist)) same ∙ ap (task_goes_on task) (sym there.1.1);
     }

@@ -1,5 +1,5 @@
 use Rattle.std.proofs.Common.{refl, subst}
-use Rattle.ent_request.specs.declared.readers.Place.TheVariants.{Person, Action, Resource}
+use Rattle.ent_request.specs.declared.readers.NamePlace.TheVariants.{Person, Action, Resource}
 use Rattle.memo_bags.specs.proofs_only.Ready.{AreRows}
 use Rattle.memo_bags.proofs.Growing.{starts_itself}
 use Rattle.memo_bags.proofs.Learning.{rows_more}

@@ -1,4 +1,4 @@
-use Rattle.ent_request.specs.declared.readers.Place.TheVariants.{Person, Action, Resource}
+use Rattle.ent_request.specs.declared.readers.NamePlace.TheVariants.{Person, Action, Resource}
 use Rattle.memo_bags.proofs.RowsStill.{rows_forgotten}
 use Rattle.memo_bags.proofs.findings.Findings.forget_name.Goals as goal
 

@@ -1,5 +1,5 @@
 use Rattle.memo_bags.specs.Findings.{IsRow}
-use Rattle.ent_request.specs.declared.readers.Place.TheVariants.{Person, Action, Resource}
+use Rattle.ent_request.specs.declared.readers.NamePlace.TheVariants.{Person, Action, Resource}
 use Rattle.memo_bags.proofs.Growing.{all_none, none_distinct}
 use Rattle.memo_bags.proofs.findings.Findings.new.Goals as goal
 

@@ -1,6 +1,6 @@
 use Rattle.std.proofs.Common.{◌≡◌, List, Some, length, slice_get, refl, sym, ap, ◌∙◌}
 use Rattle.std.proofs.lemmas.Option.{slice_get_read}
-use Rattle.memo_tests.specs.declared.outcome.Outcome.{Outcome}
+use Rattle.memo_tests.specs.declared.outcome.TestOutcome.{TestOutcome}
 use Rattle.memo_replay.proofs.Cursor.{next_is}
 use Rattle.memo_replay.proofs.over.Over.next.Goals as goal
 
@@ -12,7 +12,7 @@ returns-in-Test g c = λ came cs stands.
     let n = c.in_ok-number.field-0.now in
     let x = c.in_ok-get.field-0.now in
     let o = c.in_ok-outcome.outcome.now in
-    let outcomes : List Outcome = c.deref.result.now in
+    let outcomes : List TestOutcome = c.deref.result.now in
     let first = c.in_ok-entry.ensures.lookup in
     let second = c.in_ok-number.ensures.lookup in
     let third = c.in_ok-get.ensures.lookup in

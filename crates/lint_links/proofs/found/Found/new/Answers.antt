@@ -1,5 +1,0 @@
-use Rattle.lint_links.proofs.Searched.{found_none}
-use Rattle.lint_links.proofs.found.Found.new.Goals as goal
-
-pub returns : goal.returns
-returns c = λ docs. found_none docs (record { numbers = c.new.result }) c.new.ensures.empty

@@ -1,4 +1,0 @@
-use Rattle.memo_bags.proofs.names.Names.turn_to.Goals as goal
-
-pub returns-then-is_of-clause-at : goal.returns-then-is_of-clause-at
-returns-then-is_of-clause-at c = c.is_of.ensures.is c.if-is_of.true
