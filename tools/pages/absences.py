@@ -15,7 +15,7 @@ PAGE = ROOT / 'docs' / 'ARCHITECTURE.md'
 COMMANDS = (r'"(?:(?:person|action|resource)\.(?:add|drop)|(?:attr|day|moment|root)\.set'
             r'|policy\.(?:add|replace|withdraw))')
 PROGRAMS = ['conformance', 'faults_told', 'attributes_told', 'together_told', 'review', 'review_with_options']
-EVALUATING = ['ent_request', 'ent_trace', 'ent_walk', 'memo_heard', 'memo_plan', 'memo_bags', 'memo_tests', 'memo_answers',
+EVALUATING = ['ent_request', 'ent_trace', 'ent_walk', 'memo_plan', 'memo_plan', 'memo_bags', 'memo_tests', 'memo_answers',
               'memo_replay', 'ent_eval', 'ent_evaluator']
 PARTS_OF_AN_EVALUATOR = [f'ent_evaluator/src/{name}.rt'
                          for name in ('parts', 'listed', 'asking', 'exchange', 'evaluator')]
@@ -117,7 +117,7 @@ def evaluations():
 
 def remembering():
     yield from named(['ent_evaluator'], but=['ent_program'] + TRIALS)
-    memory = ['memo_bags', 'memo_tests', 'memo_answers', 'memo_replay', 'memo_plan', 'memo_heard', 'memo_trie']
+    memory = ['memo_bags', 'memo_tests', 'memo_answers', 'memo_replay', 'memo_plan', 'memo_plan', 'memo_trie']
     yield from named(memory, but=memory + ['ent_evaluator'])
 
 

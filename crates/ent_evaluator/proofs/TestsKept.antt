@@ -11,7 +11,7 @@ use Rattle.ent_request.specs.declared.answer.Answer.{Answer}
 use Rattle.ent_request.specs.declared.question.Question.{Question}
 use Rattle.ent_request.specs.declared.request.Request.{Request}
 use Rattle.ent_walk.specs.Answer.{answer as answer_of, answer_part, asked}
-use Rattle.memo_heard.specs.Heard.{Came, Heard, came, heard}
+use Rattle.memo_plan.specs.Heard.{Came, Heard, came, heard}
 use Rattle.memo_bags.specs.proofs_only.Ready.{Begins}
 use Rattle.memo_bags.proofs.Growing.{all_by_place, all_map, some_same, starts_itself}
 use Rattle.ent_request.proofs.Numbering.{all_at}

@@ -4,8 +4,8 @@ use Rattle.ent_request.specs.Looks.{Looks}
 use Rattle.ent_request.specs.Questions.{AreNumbers}
 use Rattle.ent_request.specs.declared.question.Question.{Question}
 use Rattle.ent_walk.specs.Answer.{answer_part}
-use Rattle.memo_heard.specs.Heard.{Came, heard}
-use Rattle.memo_heard.proofs.HeardAlike.{heard_alike}
+use Rattle.memo_plan.specs.Heard.{Came, heard}
+use Rattle.memo_plan.proofs.HeardAlike.{heard_alike}
 use Rattle.memo_bags.proofs.Growing.{starts_itself}
 use Rattle.memo_bags.proofs.Learning.{numbers_more}
 use Rattle.memo_plan.specs.Plan.{Fits, IsPlan, Scene, constant, goes_on, is_test, skip_of}

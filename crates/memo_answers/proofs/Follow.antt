@@ -9,7 +9,7 @@ use Rattle.ent_request.specs.Looks.{Looks}
 use Rattle.ent_request.specs.declared.question.Question.{Question}
 use Rattle.ent_request.specs.declared.readers.NamePlace.TheVariants.{Person, Action, Resource}
 use Rattle.ent_request.specs.declared.request.Request.{Request}
-use Rattle.memo_heard.specs.Heard.{Came}
+use Rattle.memo_plan.specs.Heard.{Came}
 use Rattle.memo_bags.specs.Findings.{AreFindings}
 use Rattle.memo_bags.specs.declared.findings.Findings.{Findings}
 use Rattle.memo_bags.specs.proofs_only.Ready.{Begins, IsAt}

@@ -6,7 +6,7 @@ use Rattle.ent_request.specs.Questions.{at_numbers}
 use Rattle.ent_request.specs.declared.question.Question.{Question}
 use Rattle.ent_walk.specs.declared.walk.Walk.{Walk}
 use Rattle.ent_walk.specs.proofs_only.Comes.{Comes, in_walk}
-use Rattle.memo_heard.specs.declared.tested.Tested.{Tested}
+use Rattle.memo_plan.specs.declared.tested.Tested.{Tested}
 use Rattle.memo_plan.proofs.Evaluating.{heard_by}
 use Rattle.memo_plan.specs.Alone.{task_part}
 use Rattle.memo_plan.specs.Plan.{task_came}

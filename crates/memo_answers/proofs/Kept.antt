@@ -10,8 +10,8 @@ use Rattle.ent_request.specs.Looks.{Looks}
 use Rattle.ent_request.specs.Questions.{AreNumbers}
 use Rattle.ent_request.specs.declared.question.Question.{Question}
 use Rattle.ent_request.specs.declared.request.Request.{Request}
-use Rattle.memo_heard.specs.CameBy.{came_by}
-use Rattle.memo_heard.specs.Heard.{Came}
+use Rattle.memo_plan.specs.CameBy.{came_by}
+use Rattle.memo_plan.specs.Heard.{Came}
 use Rattle.memo_bags.specs.Found.{IsAtTime}
 use Rattle.memo_bags.specs.proofs_only.Ready.{Begins}
 use Rattle.memo_bags.proofs.Growing.{get_set, some_same, starts_get, starts_itself}

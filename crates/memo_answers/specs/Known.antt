@@ -5,7 +5,7 @@ use Rattle.ent_request.specs.Looks.{Looks}
 use Rattle.ent_request.specs.Questions.{AreNumbers}
 use Rattle.ent_request.specs.declared.question.Question.{Question}
 use Rattle.ent_request.specs.declared.request.Request.{Request}
-use Rattle.memo_heard.specs.Heard.{Came}
+use Rattle.memo_plan.specs.Heard.{Came}
 use Rattle.memo_bags.specs.Findings.{AreFindings, IsAt}
 use Rattle.memo_bags.specs.declared.findings.Findings.{Findings}
 use Rattle.memo_plan.specs.Plan.{task_came}

@@ -5,7 +5,7 @@ use Rattle.ent_request.specs.Questions.{AreNumbers, at_numbers}
 use Rattle.ent_request.specs.declared.answer.Answer.{Answer}
 use Rattle.ent_request.specs.declared.question.Question.{Question}
 use Rattle.ent_walk.specs.Answer.{answer_part}
-use Rattle.memo_heard.specs.Heard.{Came, Heard, heard}
+use Rattle.memo_plan.specs.Heard.{Came, Heard, heard}
 use Rattle.memo_plan.specs.Plan.{Fits, IsPlan, Scene, constant, entry_came, goes_on, is_test, skip_of}
 use Rattle.memo_plan.specs.Run.{CameBy, run}
 use Rattle.memo_plan.specs.declared.task.Entry.{Entry}

@@ -4,7 +4,7 @@ ghost use Rattle.std.specs.Prelude.{ℕ, OnOk};
 ghost use Rattle.ent_request.specs.Listed.{listed};
 ghost use Rattle.ent_request.specs.Questions.{BeginsWith};
 ghost use Rattle.memo_bags.specs.proofs_only.Ready.{Begins};
-ghost use Rattle.memo_heard.specs.Heard.{Came};
+ghost use Rattle.memo_plan.specs.Heard.{Came};
 ghost use Rattle.memo_plan.specs.Plan.{IsPlan};
 ghost use Rattle.memo_answers.specs.Known.{AreKnown, TellsIn};
 ghost use Rattle.memo_answers.specs.Told.{Signs, comes_of};

@@ -1,7 +1,7 @@
 -- Equal ways tell the same.
 use Rattle.std.proofs.Common.{◌≡◌, ℕ, Option, Some, sym, ◌∙◌}
-use Rattle.memo_heard.proofs.HeardAlike.{heard_alike}
-use Rattle.memo_heard.specs.Heard.{Came}
+use Rattle.memo_plan.proofs.HeardAlike.{heard_alike}
+use Rattle.memo_plan.specs.Heard.{Came}
 use Rattle.memo_plan.specs.Plan.{EqualWaysAreHeardAlike, TellsOutcome, constant, entry_came, goes_on, is_test, skip_of}
 use Rattle.memo_plan.specs.Run.{run}
 use Rattle.memo_plan.proofs.Ways.{way_tells_once}

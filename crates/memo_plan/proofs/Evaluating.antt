@@ -13,9 +13,9 @@ use Rattle.ent_trace.specs.proofs_only.Noted.{Notes, noting}
 use Rattle.ent_walk.proofs.Parts.{keeps_on}
 use Rattle.ent_walk.specs.declared.walk.Walk.{Walk}
 use Rattle.ent_walk.specs.proofs_only.Comes.{Adds, Comes}
-use Rattle.memo_heard.specs.CameBy.{came_by}
-use Rattle.memo_heard.specs.Heard.{gist_of}
-use Rattle.memo_heard.specs.declared.tested.Tested.{Tested}
+use Rattle.memo_plan.specs.CameBy.{came_by}
+use Rattle.memo_plan.specs.Heard.{gist_of}
+use Rattle.memo_plan.specs.declared.tested.Tested.{Tested}
 use Rattle.memo_plan.proofs.AtEnd.{failed_is, told_questions}
 use Rattle.memo_plan.specs.Alone.{task_part}
 use Rattle.memo_plan.specs.Plan.{task_came}

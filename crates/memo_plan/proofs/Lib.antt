@@ -1,6 +1,8 @@
 pub mod AtEnd
 pub mod EqualWays
 pub mod Evaluating
+pub mod Gists
+pub mod HeardAlike
 pub mod Noting
 pub mod Runs
 pub mod Segments

@@ -1,7 +1,7 @@
 -- What a way notes of an entry.
 use Rattle.std.proofs.Common.{◌≡◌, ℕ, Bool, false, List, [], ◌∷◌, ◌++◌, refl, sym, ap, subst, ◌∙◌}
 use Rattle.std.specs.Prelude.{if◌then◌else◌}
-use Rattle.memo_heard.specs.Heard.{Came}
+use Rattle.memo_plan.specs.Heard.{Came}
 use Rattle.memo_plan.specs.Plan.{Scene, constant, entry_came, goes_on, is_test, item_came, item_constant, item_goes_on, item_is_test, skip_of, task_came, task_goes_on}
 use Rattle.memo_plan.specs.Run.{passed}
 use Rattle.memo_plan.specs.Signed.{IsTested, NotesOne}

@@ -27,7 +27,7 @@ use Rattle.ent_request.specs.declared.answer.Answer.{Answer}
 use Rattle.ent_request.specs.declared.request.Request.{Request}
 use Rattle.ent_walk.proofs.Typing.{both_true}
 use Rattle.ent_walk.specs.Given.{effect_of, finished, given_with}
-use Rattle.memo_heard.specs.Heard.{Came, Tests, child_came, came_of_rule, element_came, found_came, heard, named, node_came, refer_came, root_came, set_came}
+use Rattle.memo_plan.specs.Heard.{Came, Tests, child_came, came_of_rule, element_came, found_came, heard, named, node_came, refer_came, root_came, set_came}
 use Rattle.ent_walk.specs.Node.{policy_key, set_key}
 use Rattle.ent_walk.specs.Target.{is_no_match, target_part}
 use Rattle.ent_walk.specs.proofs_only.Typed.{fit_step, is_fit, set_is_fit}

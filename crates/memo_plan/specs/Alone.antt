@@ -4,9 +4,9 @@ use Rattle.ent_request.specs.Part.{Part, mapped}
 use Rattle.ent_request.specs.declared.request.Request.{Request}
 use Rattle.ent_walk.specs.Rule.{condition_part}
 use Rattle.ent_walk.specs.Target.{target_part}
-use Rattle.memo_heard.specs.Heard.{decides_part}
-use Rattle.memo_heard.specs.declared.tested.Tested.{Tested}
-use Rattle.memo_heard.specs.declared.tested.Tested.TheVariants as tested
+use Rattle.memo_plan.specs.Heard.{decides_part}
+use Rattle.memo_plan.specs.declared.tested.Tested.{Tested}
+use Rattle.memo_plan.specs.declared.tested.Tested.TheVariants as tested
 use Rattle.memo_plan.specs.declared.task.TestTask.{TestTask}
 use Rattle.memo_plan.specs.declared.task.TestTask.TheVariants as task
 

@@ -7,7 +7,7 @@ use Rattle.ent_request.specs.Part.{without_look}
 use Rattle.ent_request.specs.declared.answer.Answer.{Answer}
 use Rattle.ent_request.specs.declared.request.Request.{Request}
 use Rattle.ent_walk.specs.Answer.{answer_part}
-use Rattle.memo_heard.specs.Heard.{Came, Heard, came, condition, decides, decides_part, gives, heard, is_true, named, target}
+use Rattle.memo_plan.specs.Heard.{Came, Heard, came, condition, decides, decides_part, gives, heard, is_true, named, target}
 use Rattle.ent_walk.specs.Rule.{condition_part}
 use Rattle.ent_walk.specs.Target.{is_match, is_no_match, target_part}
 use Rattle.memo_plan.specs.Run.{CameBy, run}

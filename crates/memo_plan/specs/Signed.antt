@@ -1,6 +1,6 @@
 -- What a way notes of one test, and what may change of outcomes meanwhile.
 use Rattle.std.specs.Prelude.{◌≡◌, ℕ, Bool, true, false, List, [], ◌∷◌, ◌++◌, Some, slice_get}
-use Rattle.memo_heard.specs.Heard.{Came}
+use Rattle.memo_plan.specs.Heard.{Came}
 use Rattle.memo_plan.specs.Plan.{TaskTyped, task_goes_on}
 use Rattle.memo_plan.specs.declared.way.WayStep.{WayStep}
 use Rattle.memo_plan.specs.declared.task.Entry.{Entry}

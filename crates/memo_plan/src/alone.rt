@@ -7,16 +7,16 @@ ghost use Rattle.ent_walk.specs.Rule.{decided};
 ghost use Rattle.ent_walk.specs.declared.evaluated.Truth.TheVariants.{True};
 ghost use Rattle.ent_walk.specs.proofs_only.Comes.{Adds, Comes, in_walk};
 ghost use Rattle.ent_walk.specs.proofs_only.Judged.{or_nothing};
-ghost use Rattle.memo_heard.specs.Heard.{decides_part};
+ghost use Rattle.memo_plan.specs.Heard.{decides_part};
 ghost use Rattle.memo_plan.specs.Alone.{task_part};
 ghost use Rattle.memo_plan.specs.Plan.{TaskTyped};
 
+use crate::Tested;
 use crate::task::{TestTask, Within};
 use ent_policy::{DocKey, Rule};
 use ent_request::{Answer, LookUps};
 use ent_trace::Path;
 use ent_walk::{Truth, Walk};
-use memo_heard::Tested;
 use std::alloc::{AllocError, Global};
 
 impl TestTask {

@@ -1,7 +1,7 @@
 //! The way of the numbers of outcomes.
 
 ghost use Rattle.std.specs.Prelude.{◌≡◌, ℕ, IfOk, OnOk, if◌then◌else◌};
-ghost use Rattle.memo_heard.specs.Heard.{Came};
+ghost use Rattle.memo_plan.specs.Heard.{Came};
 ghost use Rattle.memo_plan.specs.Plan.{Scene, TaskTyped, constant, entry_came, goes_on, is_test, skip_of, task_came};
 ghost use Rattle.memo_plan.specs.Run.{CameBy, passed, run};
 ghost use Rattle.memo_plan.specs.Signed.{AreTested, Grows, IsTested, NotesOne, Tells};

@@ -11,8 +11,8 @@ use Rattle.ent_request.specs.declared.question.Question.TheVariants.{Root}
 use Rattle.ent_walk.specs.Answer.{root_part}
 use Rattle.ent_walk.specs.Judged.{has_failed}
 use Rattle.ent_walk.specs.proofs_only.Hops.{reference_part}
-use Rattle.memo_heard.specs.Heard.{Came, Gist, came, gist_of, heard, root_came}
-use Rattle.memo_heard.proofs.Gists.{behind, heard_settled, look_heard}
+use Rattle.memo_plan.specs.Heard.{Came, Gist, came, gist_of, heard, root_came}
+use Rattle.memo_plan.proofs.Gists.{behind, heard_settled, look_heard}
 use Rattle.memo_plan.specs.Plan.{Scene}
 use Rattle.memo_plan.specs.proofs_only.Entries.{reference_tests}
 use Rattle.memo_answers.specs.Known.{TellsIn}

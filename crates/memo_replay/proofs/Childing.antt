@@ -33,8 +33,8 @@ use Rattle.ent_walk.specs.proofs_only.Gathered.{Gathers, Tells}
 use Rattle.ent_walk.specs.proofs_only.Hops.{child_part, children_combined, node_of, reference_part, set_children, set_part}
 use Rattle.ent_walk.specs.proofs_only.Judged.{or_nothing}
 use Rattle.ent_walk.proofs.Sets.{set_out, shared-part}
-use Rattle.memo_heard.specs.Heard.{Came, Gist, Heard, element_came, gist_of, heard, named}
-use Rattle.memo_heard.proofs.Gists.{gist_append, heard_settled}
+use Rattle.memo_plan.specs.Heard.{Came, Gist, Heard, element_came, gist_of, heard, named}
+use Rattle.memo_plan.proofs.Gists.{gist_append, heard_settled}
 use Rattle.memo_plan.specs.Plan.{Scene}
 use Rattle.memo_plan.specs.proofs_only.Entries.{child_tests, children_tests, found_tests, policy_tests, reference_tests, set_tests}
 use Rattle.memo_replay.specs.declared.over.Over.{Over}

@@ -10,8 +10,8 @@ use Rattle.ent_request.specs.Questions.{AreNumbers, same_question}
 use Rattle.ent_request.specs.declared.question.Question.{Question}
 use Rattle.ent_request.specs.declared.question.Question.TheVariants.{Ref}
 use Rattle.memo_bags.proofs.Growing.{some_same}
-use Rattle.memo_heard.specs.CameBy.{came_by}
-use Rattle.memo_heard.specs.Heard.{Came, Gist, gist_of, named}
+use Rattle.memo_plan.specs.CameBy.{came_by}
+use Rattle.memo_plan.specs.Heard.{Came, Gist, gist_of, named}
 use Rattle.memo_plan.specs.Plan.{constant, goes_on, is_test, item_goes_on, item_is_test, skip_of, task_goes_on}
 use Rattle.memo_plan.specs.Run.{CameBy, Signs, passed}
 use Rattle.memo_plan.specs.declared.task.Entry.{Entry}

@@ -11,8 +11,8 @@ use Rattle.ent_walk.specs.Node.{element}
 use Rattle.ent_walk.specs.Target.{is_no_match}
 use Rattle.ent_walk.specs.declared.target.Targeted.{Targeted}
 use Rattle.ent_walk.specs.declared.target.Targeted.TheVariants as is
-use Rattle.memo_heard.specs.Heard.{Came, Heard, element_came, gist_of, gives, heard, target}
-use Rattle.memo_heard.proofs.Gists.{behind, element_heard, heard_after, heard_then}
+use Rattle.memo_plan.specs.Heard.{Came, Heard, element_came, gist_of, gives, heard, target}
+use Rattle.memo_plan.proofs.Gists.{behind, element_heard, heard_after, heard_then}
 use Rattle.memo_plan.specs.Plan.{nothing_given}
 use Rattle.memo_replay.specs.declared.over.Over.{Over}
 use Rattle.memo_replay.specs.declared.state.JoinState.{JoinState}

@@ -9,8 +9,8 @@ use Rattle.ent_request.specs.Questions.{AreNumbers, asked_once, at_numbers, same
 use Rattle.ent_request.specs.declared.question.Question.{Question}
 use Rattle.ent_request.specs.declared.question.Question.TheVariants.{Root}
 use Rattle.ent_request.proofs.Numbering.{noted_there}
-use Rattle.memo_heard.specs.Heard.{Came, Gist, gist_of}
-use Rattle.memo_heard.proofs.Gists.{once_behind}
+use Rattle.memo_plan.specs.Heard.{Came, Gist, gist_of}
+use Rattle.memo_plan.proofs.Gists.{once_behind}
 use Rattle.memo_tests.specs.declared.outcome.TestOutcome.{TestOutcome}
 use Rattle.memo_replay.specs.declared.over.Over.{Over}
 use Rattle.memo_replay.specs.declared.state.JoinState.{JoinState}

@@ -21,8 +21,8 @@ use Rattle.ent_walk.specs.Node.{set_key}
 use Rattle.ent_walk.specs.Target.{is_match, is_no_match, target_part}
 use Rattle.ent_walk.specs.declared.evaluated.Truth.{Truth}
 use Rattle.ent_walk.specs.declared.target.Targeted.{Targeted}
-use Rattle.memo_heard.specs.CameBy.{came_by}
-use Rattle.memo_heard.specs.Heard.{Came, Gist, Heard, Tests, child_came, condition, decides, element_came, gives, heard, is_true, named, node_came, refer_came, rule_came, set_came, target}
+use Rattle.memo_plan.specs.CameBy.{came_by}
+use Rattle.memo_plan.specs.Heard.{Came, Gist, Heard, Tests, child_came, condition, decides, element_came, gives, heard, is_true, named, node_came, refer_came, rule_came, set_came, target}
 use Rattle.memo_plan.specs.Plan.{Scene, nothing_given}
 use Rattle.memo_plan.specs.proofs_only.Entries.{child_tests, children_tests, found_tests, policy_tests, reference_tests, set_tests}
 use Rattle.memo_tests.specs.Tested.{came_of}

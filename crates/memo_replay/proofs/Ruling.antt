@@ -34,8 +34,8 @@ use Rattle.ent_walk.specs.declared.target.Targeted.TheVariants as is
 use Rattle.ent_walk.specs.proofs_only.Gathered.{Gathers, HasGathered, Tells, judged_by}
 use Rattle.ent_walk.proofs.Children.{judged_seen}
 use Rattle.ent_walk.proofs.Going.{values_to, values_to-next}
-use Rattle.memo_heard.specs.Heard.{Came, Gist, Heard, came_of_rule, condition, decides, decides_part, gist_of, heard, is_true, target}
-use Rattle.memo_heard.proofs.Gists.{behind, gist_append, heard_under, rule_heard}
+use Rattle.memo_plan.specs.Heard.{Came, Gist, Heard, came_of_rule, condition, decides, decides_part, gist_of, heard, is_true, target}
+use Rattle.memo_plan.proofs.Gists.{behind, gist_append, heard_under, rule_heard}
 use Rattle.memo_replay.specs.declared.over.Over.{Over}
 use Rattle.memo_replay.specs.declared.state.JoinState.{JoinState}
 use Rattle.memo_replay.specs.proofs_only.Heard.{HearsMore, HearsNothing, gist_in, joined}

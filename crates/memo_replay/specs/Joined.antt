@@ -6,7 +6,7 @@ use Rattle.ent_request.specs.declared.answer.Answer.{Answer}
 use Rattle.ent_request.specs.declared.question.Question.{Question}
 use Rattle.ent_request.specs.declared.request.Request.{Request}
 use Rattle.ent_walk.specs.Answer.{answer_part}
-use Rattle.memo_heard.specs.Heard.{Heard, heard}
+use Rattle.memo_plan.specs.Heard.{Heard, heard}
 use Rattle.memo_replay.specs.declared.joined.Joined.{Joined}
 
 -- what is heard of it, over the questions that have a number

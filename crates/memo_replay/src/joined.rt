@@ -2,7 +2,7 @@
 
 ghost use Rattle.std.specs.Prelude.{◌≡◌, [], false, IfOk, IfSome, Some, drop};
 ghost use Rattle.memo_bags.specs.proofs_only.Ready.{request_of};
-ghost use Rattle.memo_heard.specs.Heard.{came};
+ghost use Rattle.memo_plan.specs.Heard.{came};
 ghost use Rattle.memo_answers.specs.Known.{TellsIn};
 ghost use Rattle.memo_answers.specs.Told.{Signs};
 ghost use Rattle.memo_replay.specs.Joined.{IsJoined};

@@ -8,8 +8,8 @@ ghost use Rattle.ent_policy.specs.declared.document.Rule.{Rule};
 ghost use Rattle.ent_policy.specs.declared.expression.VariableDefinition.{VariableDefinition};
 ghost use Rattle.ent_policy.specs.declared.key.DocKey.{DocKey};
 ghost use Rattle.ent_policy.specs.declared.key.Reference.{Reference};
-ghost use Rattle.memo_heard.specs.CameBy.{came_by};
-ghost use Rattle.memo_heard.specs.Heard.{Gist, Heard, came_of_rule, condition, is_true, target};
+ghost use Rattle.memo_plan.specs.CameBy.{came_by};
+ghost use Rattle.memo_plan.specs.Heard.{Gist, Heard, came_of_rule, condition, is_true, target};
 ghost use Rattle.memo_plan.specs.Plan.{Scene};
 ghost use Rattle.memo_plan.specs.proofs_only.Entries.{child_tests, children_tests, policy_tests};
 ghost use Rattle.memo_plan.specs.proofs_only.Entries.{reference_tests, set_tests, tree_tests};
@@ -22,7 +22,7 @@ use crate::state::JoinState;
 use ent_policy::{Child, Tree};
 use ent_request::LookUps;
 use ent_walk::{Targeted, Truth};
-use memo_heard::Tested;
+use memo_plan::Tested;
 
 impl<L: LookUps> Over<'_, L> {
     // Passes so many rules.

@@ -10,7 +10,7 @@ ghost use Rattle.ent_walk.specs.Rule.{decided, rule_part};
 ghost use Rattle.ent_walk.specs.declared.evaluated.Truth.TheVariants as truth;
 ghost use Rattle.ent_walk.specs.proofs_only.Gathered.{Gathers, Tells};
 ghost use Rattle.ent_walk.specs.proofs_only.Judged.{or_nothing};
-ghost use Rattle.memo_heard.specs.Heard.{came_of_rule, heard};
+ghost use Rattle.memo_plan.specs.Heard.{came_of_rule, heard};
 ghost use Rattle.memo_plan.specs.proofs_only.Entries.{policy_tests};
 ghost use Rattle.memo_replay.specs.proofs_only.Stands.{Joins, TakesPart, heard_matched, looks_in};
 ghost use Rattle.memo_replay.specs.proofs_only.Stands.{matched_came, request_in, scene_in};

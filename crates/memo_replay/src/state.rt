@@ -5,7 +5,7 @@ ghost use Rattle.std.specs.List.{IsDistinct};
 ghost use Rattle.ent_request.specs.Note.{asks};
 ghost use Rattle.ent_request.specs.Questions.{AreNumbers, same_question};
 ghost use Rattle.ent_request.specs.declared.question.Question.{Question};
-ghost use Rattle.memo_heard.specs.Heard.{gist_of};
+ghost use Rattle.memo_plan.specs.Heard.{gist_of};
 ghost use Rattle.memo_replay.specs.proofs_only.Heard.{HearsMore, StaysThere, failing, gist_by};
 
 use ent_trace::{MarkedNumbers, Notes};

@@ -20,7 +20,7 @@ use Rattle.ent_walk.specs.Law.{FindsSame}
 use Rattle.ent_walk.specs.Rule.{condition_part, decided}
 use Rattle.ent_walk.specs.Target.{target_part}
 use Rattle.ent_walk.specs.declared.evaluated.Truth.TheVariants as truth
-use Rattle.memo_heard.specs.Heard.{Came, Heard, condition, decides, decides_part, heard, target}
+use Rattle.memo_plan.specs.Heard.{Came, Heard, condition, decides, decides_part, heard, target}
 use Rattle.memo_bags.proofs.AskedOnce.{all_asked}
 use Rattle.memo_bags.specs.Found.{IsAttribute}
 use Rattle.memo_tests.specs.Tested.{Rests, asked_by}

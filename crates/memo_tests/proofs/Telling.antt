@@ -10,7 +10,7 @@ use Rattle.ent_request.specs.Questions.{AreNumbers, at_numbers}
 use Rattle.ent_request.specs.declared.question.Question.{Question}
 use Rattle.ent_request.specs.declared.request.Request.{Request}
 use Rattle.ent_walk.specs.Law.{FindsSame}
-use Rattle.memo_heard.specs.Heard.{Came}
+use Rattle.memo_plan.specs.Heard.{Came}
 use Rattle.memo_bags.specs.declared.finding.Finding.{Finding}
 use Rattle.memo_bags.specs.Findings.{IsFinding}
 use Rattle.memo_bags.specs.Found.{IsAtTime, IsAttribute}
@@ -20,9 +20,9 @@ use Rattle.memo_bags.specs.proofs_only.Ready.{Begins, TellsAttributes}
 use Rattle.memo_bags.proofs.Growing.{starts_get, starts_itself}
 use Rattle.memo_bags.proofs.Learning.{about_all, about_more, numbers_more, turns_all, turns_more, way_back, way_finds}
 use Rattle.memo_tests.specs.declared.outcome.TestOutcome.{TestOutcome}
-use Rattle.memo_heard.specs.CameBy.{came_by}
-use Rattle.memo_heard.specs.declared.tested.Tested.{Tested}
-use Rattle.memo_heard.specs.declared.tested.Tested.TheVariants as tested
+use Rattle.memo_plan.specs.CameBy.{came_by}
+use Rattle.memo_plan.specs.declared.tested.Tested.{Tested}
+use Rattle.memo_plan.specs.declared.tested.Tested.TheVariants as tested
 use Rattle.memo_tests.specs.declared.test.Test.{Test}
 use Rattle.memo_tests.specs.Tested.{ComesTo, IsTest, Learns, Rests, Tells, asked_by, came_of}
 use Rattle.memo_tests.specs.proofs_only.Leading.{LeadsTo}

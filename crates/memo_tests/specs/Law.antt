@@ -7,7 +7,7 @@ use Rattle.ent_policy.specs.declared.expression.VariableDefinition.{VariableDefi
 use Rattle.ent_policy.specs.declared.key.DocKey.{DocKey}
 use Rattle.ent_walk.specs.Rule.{condition_part}
 use Rattle.ent_walk.specs.Target.{target_part}
-use Rattle.memo_heard.specs.Heard.{condition, decides, decides_part, heard, target}
+use Rattle.memo_plan.specs.Heard.{condition, decides, decides_part, heard, target}
 use Rattle.memo_tests.specs.Tested.{Rests}
 
 -- targets

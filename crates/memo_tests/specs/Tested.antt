@@ -9,8 +9,8 @@ use Rattle.ent_request.specs.Questions.{AreNumbers, at_numbers}
 use Rattle.ent_request.specs.declared.question.Question.{Question}
 use Rattle.ent_request.specs.declared.request.Request.{Request}
 use Rattle.ent_walk.specs.Law.{FindsSame}
-use Rattle.memo_heard.specs.CameBy.{came_by}
-use Rattle.memo_heard.specs.Heard.{Came, condition, decides, gives, named, target}
+use Rattle.memo_plan.specs.CameBy.{came_by}
+use Rattle.memo_plan.specs.Heard.{Came, condition, decides, gives, named, target}
 use Rattle.memo_bags.specs.Found.{IsAtTime, IsAttribute}
 use Rattle.memo_bags.specs.Ways.{AsksAbout, FindsWay, IsTurn, Way}
 use Rattle.memo_tests.specs.declared.outcome.TestOutcome.{TestOutcome}

@@ -1,12 +1,12 @@
 //! What is heard of a test.
 
 ghost use Rattle.std.specs.Prelude.{◌≡◌, IsTrue};
-ghost use Rattle.memo_heard.specs.declared.tested.Tested.TheVariants.{Condition, Decides, Target};
+ghost use Rattle.memo_plan.specs.declared.tested.Tested.TheVariants.{Condition, Decides, Target};
 
 use ent_request::Answer;
 use ent_values::Items;
 use ent_walk::{Targeted, Truth};
-use memo_heard::Tested;
+use memo_plan::Tested;
 
 /// What a test comes to, the numbers of the questions that are asked for it, each once, and whether something in it
 /// failed by itself.

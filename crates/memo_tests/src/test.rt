@@ -9,7 +9,7 @@ ghost use Rattle.ent_request.specs.declared.request.Request.{Request};
 ghost use Rattle.memo_bags.specs.Ways.{AsksAbout};
 ghost use Rattle.memo_bags.specs.proofs_only.Led.{AreAbout};
 ghost use Rattle.memo_bags.specs.proofs_only.Ready.{AreReady, Begins, KeepsReady, in_scene, request_of};
-ghost use Rattle.memo_heard.specs.Heard.{Came};
+ghost use Rattle.memo_plan.specs.Heard.{Came};
 ghost use Rattle.memo_tests.specs.Tested.{ComesTo, IsTest, Learns};
 ghost use Rattle.memo_tests.specs.proofs_only.Leading.{LeadsTo};
 

@@ -3,7 +3,7 @@ use Rattle.std.specs.Prelude.{◌≡◌, ℕ, Some, IfSome, slice_get}
 use Rattle.ent_request.specs.Listed.{listed}
 use Rattle.ent_request.specs.Looks.{Looks}
 use Rattle.ent_request.specs.declared.request.Request.{Request}
-use Rattle.memo_heard.specs.Heard.{Came}
+use Rattle.memo_plan.specs.Heard.{Came}
 use Rattle.memo_bags.specs.proofs_only.Ready.{Begins}
 use Rattle.memo_plan.specs.Plan.{Scene, task_came}
 use Rattle.memo_plan.specs.declared.task.TestTask.{TestTask}

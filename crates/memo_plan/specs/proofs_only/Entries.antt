@@ -13,7 +13,7 @@ use Rattle.ent_policy.specs.declared.given.GivenExpressions.{GivenExpressions}
 use Rattle.ent_policy.specs.declared.key.DocKey.{DocKey}
 use Rattle.ent_policy.specs.declared.key.Reference.{Reference}
 use Rattle.ent_request.specs.Looks.{Looks}
-use Rattle.memo_heard.specs.Heard.{Came, Tests, child_came, found_came, node_came, policy_came, refer_came, set_came}
+use Rattle.memo_plan.specs.Heard.{Came, Tests, child_came, found_came, node_came, policy_came, refer_came, set_came}
 use Rattle.memo_plan.specs.Plan.{Fits, IsTyped, Scene, entry_came, goes_on, skip_of}
 use Rattle.memo_plan.specs.Run.{IsSegment}
 use Rattle.memo_plan.specs.declared.task.Entry.{Entry}

@@ -2,7 +2,7 @@
 use Rattle.std.specs.Prelude.{◌≡◌, ◌||◌, List, [], true}
 use Rattle.ent_request.specs.Questions.{AreNumbers, asked_once, at_numbers}
 use Rattle.ent_request.specs.declared.question.Question.{Question}
-use Rattle.memo_heard.specs.Heard.{Gist}
+use Rattle.memo_plan.specs.Heard.{Gist}
 use Rattle.memo_tests.specs.declared.outcome.TestOutcome.{TestOutcome}
 use Rattle.memo_replay.specs.declared.state.JoinState.{JoinState}
 

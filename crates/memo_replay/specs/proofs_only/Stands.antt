@@ -16,7 +16,7 @@ use Rattle.ent_walk.specs.Given.{finished}
 use Rattle.ent_walk.specs.Rule.{condition_part, decided}
 use Rattle.ent_walk.specs.declared.gather.Gathering.{Gathering}
 use Rattle.ent_walk.specs.proofs_only.Gathered.{Gathers, Tells}
-use Rattle.memo_heard.specs.Heard.{Came, Gist, Heard, condition, decides, decides_part, gist_of, heard, is_true}
+use Rattle.memo_plan.specs.Heard.{Came, Gist, Heard, condition, decides, decides_part, gist_of, heard, is_true}
 use Rattle.memo_plan.specs.Plan.{Scene, constant, goes_on, is_test, skip_of}
 use Rattle.memo_plan.specs.Run.{CameBy}
 use Rattle.memo_tests.specs.Tested.{came_of}

@@ -4,7 +4,7 @@ use Rattle.ent_values.specs.Bags.{Contents}
 use Rattle.ent_request.specs.Looks.{Looks}
 use Rattle.ent_request.specs.declared.question.Question.{Question}
 use Rattle.ent_request.specs.declared.request.Request.{Request}
-use Rattle.memo_heard.specs.Heard.{Came}
+use Rattle.memo_plan.specs.Heard.{Came}
 use Rattle.memo_bags.specs.declared.finding.Finding.{Finding}
 use Rattle.memo_bags.specs.Ways.{way_of}
 use Rattle.memo_bags.specs.proofs_only.Led.{AreAbout}

@@ -4,7 +4,7 @@ use Rattle.ent_walk.specs.Given.{finished}
 use Rattle.ent_walk.specs.Rule.{decided}
 use Rattle.ent_walk.specs.declared.evaluated.Truth.TheVariants.{True}
 use Rattle.ent_walk.specs.proofs_only.Judged.{or_nothing}
-use Rattle.memo_heard.specs.Heard.{decides_part}
+use Rattle.memo_plan.specs.Heard.{decides_part}
 use Rattle.memo_plan.proofs.Evaluating.{comes_then}
 use Rattle.memo_plan.proofs.alone.decision.Goals as goal
 

@@ -1,5 +1,5 @@
 use Rattle.std.proofs.Common.{ap, sym, ◌∙◌}
-use Rattle.memo_heard.specs.declared.tested.Tested.TheVariants.{Condition}
+use Rattle.memo_plan.specs.declared.tested.Tested.TheVariants.{Condition}
 use Rattle.memo_tests.proofs.Outcomes.{truth_same}
 use Rattle.memo_tests.proofs.outcome.is_condition.Goals as goal
 

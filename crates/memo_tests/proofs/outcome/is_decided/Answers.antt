@@ -1,6 +1,6 @@
 use Rattle.std.proofs.Common.{ap, sym, ◌∙◌}
 use Rattle.ent_request.proofs.Sames.{answer-Decides}
-use Rattle.memo_heard.specs.declared.tested.Tested.TheVariants.{Decides}
+use Rattle.memo_plan.specs.declared.tested.Tested.TheVariants.{Decides}
 use Rattle.memo_tests.proofs.outcome.is_decided.Goals as goal
 
 pub returns-in-Decides : goal.returns-in-Decides

@@ -1,5 +1,5 @@
 use Rattle.std.proofs.Common.{ap, sym, ◌∙◌}
-use Rattle.memo_heard.specs.declared.tested.Tested.TheVariants.{Target}
+use Rattle.memo_plan.specs.declared.tested.Tested.TheVariants.{Target}
 use Rattle.memo_tests.proofs.Outcomes.{targeted_same}
 use Rattle.memo_tests.proofs.outcome.is_target.Goals as goal
 

@@ -1,6 +1,6 @@
 use Rattle.std.proofs.Common.{subst, sym}
 use Rattle.memo_bags.specs.proofs_only.Ready.{request_of}
-use Rattle.memo_heard.specs.Heard.{came}
+use Rattle.memo_plan.specs.Heard.{came}
 use Rattle.memo_answers.specs.Known.{TellsIn}
 use Rattle.memo_answers.specs.Told.{Signs}
 use Rattle.ent_evaluator.proofs.TestsKept.{came_signed, root_signed}

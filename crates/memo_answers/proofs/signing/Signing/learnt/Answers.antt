@@ -1,6 +1,6 @@
 use Rattle.std.proofs.Common.{ap, subst, sym, ◌∙◌}
 use Rattle.std.specs.Prelude.{IfOk}
-use Rattle.memo_heard.specs.Heard.{Came}
+use Rattle.memo_plan.specs.Heard.{Came}
 use Rattle.memo_plan.specs.Plan.{task_came}
 use Rattle.memo_answers.specs.proofs_only.Signing.{TellsAt}
 use Rattle.memo_answers.proofs.Follow.{follows_then, has_still, same_scene}

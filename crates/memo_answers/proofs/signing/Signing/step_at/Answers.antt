@@ -1,8 +1,8 @@
 use Rattle.std.proofs.Common.{◌≡◌, Some, ap, arith, length, refl, slice_get, subst, sym, ◌∙◌}
 use Rattle.std.proofs.lemmas.Option.{slice_get_read, slice_get_within}
 use Rattle.ent_request.specs.Questions.{at_numbers}
-use Rattle.memo_heard.specs.CameBy.{came_by}
-use Rattle.memo_heard.specs.Heard.{Gist}
+use Rattle.memo_plan.specs.CameBy.{came_by}
+use Rattle.memo_plan.specs.Heard.{Gist}
 use Rattle.memo_bags.proofs.Growing.{some_same}
 use Rattle.memo_plan.specs.Plan.{task_goes_on}
 use Rattle.memo_tests.specs.declared.outcome.TestOutcome.{TestOutcome}

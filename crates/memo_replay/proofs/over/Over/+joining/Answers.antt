@@ -5,7 +5,7 @@ use Rattle.ent_policy.specs.declared.document.Child.{Child}
 use Rattle.ent_walk.specs.proofs_only.Hops.{child_part, reference_part, settled_child}
 use Rattle.ent_walk.specs.proofs_only.Judged.{or_nothing}
 use Rattle.ent_walk.proofs.PathKeys.{keys_of_below}
-use Rattle.memo_heard.specs.Heard.{Came}
+use Rattle.memo_plan.specs.Heard.{Came}
 use Rattle.memo_plan.specs.proofs_only.Entries.{child_tests, reference_tests}
 use Rattle.memo_replay.specs.proofs_only.Stands.{Joins, questions_of, scene_in}
 use Rattle.memo_replay.proofs.Childing.{Names, children_back, followed_back, match_back, policy_back, reference_back, reference_too_far, reference_unfound, set_back, set_joins_none, set_joins_under, takes_child}

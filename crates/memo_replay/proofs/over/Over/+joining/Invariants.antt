@@ -2,7 +2,7 @@ use Rattle.std.proofs.Common.{◌+◌, ◌*◌}
 use Rattle.std.specs.Prelude.{List, ◌++◌}
 use Rattle.ent_trace.specs.proofs_only.Path.{keys_of}
 use Rattle.ent_walk.specs.proofs_only.Hops.{settled_child}
-use Rattle.memo_heard.specs.Heard.{Came}
+use Rattle.memo_plan.specs.Heard.{Came}
 use Rattle.memo_plan.specs.proofs_only.Entries.{child_tests, children_tests}
 use Rattle.memo_replay.specs.proofs_only.Stands.{Stands, looks_in, request_in, scene_in}
 use Rattle.memo_replay.proofs.Ruling.{Proceeds}

@@ -5,7 +5,7 @@ use Rattle.ent_request.specs.declared.answer.Answer.{Answer}
 use Rattle.ent_walk.specs.Given.{finished}
 use Rattle.ent_walk.specs.Node.{set_key}
 use Rattle.ent_walk.specs.Target.{target_part}
-use Rattle.memo_heard.specs.Heard.{element_came, heard}
+use Rattle.memo_plan.specs.Heard.{element_came, heard}
 use Rattle.memo_plan.specs.proofs_only.Entries.{child_tests, children_tests, policy_tests, set_tests, tree_tests}
 use Rattle.memo_replay.proofs.Passed.{GoesNamed, element_passed, element_unmatched, named_passed, one_passed, passes_same, policy_child, set_child, set_rolls}
 use Rattle.memo_replay.proofs.over.Over.+passing.Goals as goal

@@ -1,6 +1,6 @@
 use Rattle.std.proofs.Common.{◌+◌, ◌*◌, ◌++◌, List, drop}
 use Rattle.ent_policy.specs.declared.key.DocKey.{DocKey}
-use Rattle.memo_heard.specs.Heard.{Came}
+use Rattle.memo_plan.specs.Heard.{Came}
 use Rattle.memo_plan.specs.Plan.{Scene}
 use Rattle.memo_plan.specs.proofs_only.Entries.{children_tests}
 use Rattle.memo_replay.specs.proofs_only.Heard.{HearsNothing}

@@ -4,7 +4,7 @@ use Rattle.std.specs.List.{flat_map}
 use Rattle.ent_walk.specs.Given.{finished}
 use Rattle.ent_walk.specs.Node.{policy_key}
 use Rattle.ent_walk.specs.Target.{target_part}
-use Rattle.memo_heard.specs.Heard.{came_of_rule, heard}
+use Rattle.memo_plan.specs.Heard.{came_of_rule, heard}
 use Rattle.memo_replay.proofs.Passed.{element_passed, element_unmatched}
 use Rattle.memo_replay.proofs.over.Over.pass_policy.Goals as goal
 

@@ -1,5 +1,5 @@
 use Rattle.std.proofs.Common.{sym, subst, ◌∙◌}
-use Rattle.memo_heard.specs.Heard.{came_of_rule, decides_part, heard}
+use Rattle.memo_plan.specs.Heard.{came_of_rule, decides_part, heard}
 use Rattle.ent_walk.specs.Rule.{condition_part}
 use Rattle.ent_walk.specs.Target.{target_part}
 use Rattle.memo_replay.specs.proofs_only.Stands.{Passes}

@@ -1,5 +1,5 @@
 use Rattle.std.proofs.Common.{◌+◌, ◌∙◌, drop, arith}
-use Rattle.memo_heard.specs.Heard.{came_of_rule}
+use Rattle.memo_plan.specs.Heard.{came_of_rule}
 use Rattle.memo_replay.proofs.Passed.{first_left, one_passed}
 use Rattle.memo_replay.proofs.over.Over.pass_rules.Goals as goal
 

@@ -3,7 +3,7 @@ use Rattle.std.specs.List.{flat_map}
 use Rattle.ent_policy.specs.declared.document.Rule.{Rule}
 use Rattle.ent_policy.specs.declared.expression.VariableDefinition.{VariableDefinition}
 use Rattle.ent_policy.specs.declared.key.DocKey.{DocKey}
-use Rattle.memo_heard.specs.Heard.{Came, came_of_rule}
+use Rattle.memo_plan.specs.Heard.{Came, came_of_rule}
 use Rattle.memo_plan.specs.Plan.{Scene}
 use Rattle.memo_replay.specs.proofs_only.Heard.{HearsNothing}
 use Rattle.memo_replay.specs.proofs_only.Stands.{Stands}

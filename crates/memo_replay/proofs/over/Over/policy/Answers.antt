@@ -6,7 +6,7 @@ use Rattle.ent_walk.specs.Given.{finished}
 use Rattle.ent_walk.specs.Node.{policy_key, policy_rules}
 use Rattle.ent_walk.specs.Target.{target_part}
 use Rattle.ent_walk.specs.proofs_only.Judged.{or_nothing}
-use Rattle.memo_heard.specs.Heard.{came_of_rule}
+use Rattle.memo_plan.specs.Heard.{came_of_rule}
 use Rattle.memo_replay.specs.proofs_only.Stands.{looks_in, request_in}
 use Rattle.memo_replay.proofs.Elements.{element_match, element_none, element_under}
 use Rattle.memo_replay.proofs.over.Over.policy.Goals as goal

@@ -3,7 +3,7 @@ use Rattle.std.proofs.lemmas.List.{length-drop}
 use Rattle.ent_trace.specs.proofs_only.Path.{keys_of}
 use Rattle.ent_walk.specs.Rule.{rule_part}
 use Rattle.ent_walk.specs.proofs_only.Judged.{or_nothing}
-use Rattle.memo_heard.specs.Heard.{came_of_rule}
+use Rattle.memo_plan.specs.Heard.{came_of_rule}
 use Rattle.memo_replay.specs.proofs_only.Stands.{looks_in, request_in, scene_in}
 use Rattle.memo_replay.proofs.Ruling.{all_joined, begins, proceeds_on, stopped}
 use Rattle.memo_replay.proofs.over.Over.rules.Goals as goal

@@ -3,7 +3,7 @@ use Rattle.std.specs.List.{flat_map}
 use Rattle.ent_policy.specs.declared.expression.VariableDefinition.{VariableDefinition}
 use Rattle.ent_trace.specs.proofs_only.Path.{keys_of}
 use Rattle.ent_walk.specs.Rule.{rule_part}
-use Rattle.memo_heard.specs.Heard.{Came, came_of_rule}
+use Rattle.memo_plan.specs.Heard.{Came, came_of_rule}
 use Rattle.memo_replay.specs.proofs_only.Stands.{Stands, looks_in, request_in}
 use Rattle.memo_replay.proofs.Ruling.{Proceeds}
 use Rattle.memo_replay.proofs.over.Over.rules.Given as goal

@@ -3,7 +3,7 @@ use Rattle.std.specs.Prelude.{unwrap_or}
 use Rattle.ent_walk.proofs.PathKeys.{keys_of_root}
 use Rattle.ent_walk.specs.proofs_only.Hops.{reference_part}
 use Rattle.ent_walk.specs.proofs_only.Judged.{or_nothing}
-use Rattle.memo_heard.specs.Heard.{came}
+use Rattle.memo_plan.specs.Heard.{came}
 use Rattle.memo_plan.specs.proofs_only.Entries.{reference_tests}
 use Rattle.memo_replay.specs.proofs_only.Stands.{Joins, scene_in}
 use Rattle.memo_replay.proofs.Answering.{is_joined, stands_first}

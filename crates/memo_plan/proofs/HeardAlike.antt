@@ -27,13 +27,13 @@ use Rattle.ent_walk.specs.declared.target.Targeted.{Targeted}
 use Rattle.ent_walk.specs.declared.target.Targeted.TheVariants as is
 use Rattle.ent_walk.specs.Answer.{most_hops, root_part}
 use Rattle.ent_walk.specs.Given.{effect_of, finished, given_with}
-use Rattle.memo_heard.specs.Heard.{Came, EqualTestsAreHeardAlike, Heard, Tests, came_of_rule, child_came, condition, decides, element_came, found_came, gist_of, gives, heard, is_true, named, node_came, refer_came, root_came, rule_came, set_came, target}
+use Rattle.memo_plan.specs.Heard.{Came, EqualTestsAreHeardAlike, Heard, Tests, came_of_rule, child_came, condition, decides, element_came, found_came, gist_of, gives, heard, is_true, named, node_came, refer_came, root_came, rule_came, set_came, target}
 use Rattle.ent_walk.specs.Judged.{has_failed}
 use Rattle.ent_walk.specs.Node.{Node, child_step, children_part, combined, element, followed, found_node, node_with, policy_key, refer, set_key, set_step}
 use Rattle.ent_walk.specs.Rule.{condition_part, decided, rule_part}
 use Rattle.ent_walk.specs.Target.{is_match, is_no_match, target_part}
 use Rattle.ent_walk.specs.proofs_only.Node.{set_node_with}
-use Rattle.memo_heard.proofs.Gists.{behind, combined_heard, element_heard, heard_combined, heard_element, heard_only, heard_rule, heard_settled, heard_within, look_heard, only_heard, rule_heard}
+use Rattle.memo_plan.proofs.Gists.{behind, combined_heard, element_heard, heard_combined, heard_element, heard_only, heard_rule, heard_settled, heard_within, look_heard, only_heard, rule_heard}
 use Rattle.ent_walk.proofs.Rests.{World}
 use Rattle.ent_walk.proofs.Sets.{map-map}
 

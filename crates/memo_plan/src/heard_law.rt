@@ -1,6 +1,6 @@
 //! The law of tests.
 
-ghost use Rattle.memo_heard.specs.Heard.{EqualTestsAreHeardAlike};
+ghost use Rattle.memo_plan.specs.Heard.{EqualTestsAreHeardAlike};
 
 /// Law: where the root is the same and each reference that is followed names the same document, and the same is heard
 /// of each target, of each condition under a match, of what its rule decides, and of what each element gives itself,

@@ -18,7 +18,7 @@ use Rattle.ent_request.specs.declared.answer.Status.TheVariants.{ProcessingError
 use Rattle.ent_request.specs.declared.question.Question.{Question}
 use Rattle.ent_request.proofs.Among.{asked_now, asked_still}
 use Rattle.ent_request.proofs.Sames.{question-Decides}
-use Rattle.memo_heard.specs.Heard.{Gist, Heard, gist_of, heard}
+use Rattle.memo_plan.specs.Heard.{Gist, Heard, gist_of, heard}
 use Rattle.ent_walk.specs.Judged.{has_failed, judgement_of, stops, with_target}
 use Rattle.ent_walk.specs.Node.{children_after, combined, element}
 use Rattle.ent_walk.specs.Only.{choice_part, chosen, chosen_part, first_target_status, only_one, results, seen_choice, several, spoils}

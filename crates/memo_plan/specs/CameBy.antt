@@ -1,7 +1,7 @@
 -- What is heard of a test, by what it came to.
-use Rattle.memo_heard.specs.Heard.{Came, Gist, condition, decides, target}
-use Rattle.memo_heard.specs.declared.tested.Tested.{Tested}
-use Rattle.memo_heard.specs.declared.tested.Tested.TheVariants as tested
+use Rattle.memo_plan.specs.Heard.{Came, Gist, condition, decides, target}
+use Rattle.memo_plan.specs.declared.tested.Tested.{Tested}
+use Rattle.memo_plan.specs.declared.tested.Tested.TheVariants as tested
 
 -- what is heard of a test, by what it came to
 abbrev pub came_by : Tested → Gist → Came

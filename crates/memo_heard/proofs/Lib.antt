@@ -1,2 +1,0 @@
-pub mod Gists
-pub mod HeardAlike

@@ -1,5 +1,0 @@
-use Rattle.memo_heard.proofs.HeardAlike.{heard_alike}
-use Rattle.memo_heard.proofs.law.equal_tests_are_heard_alike.Goals as goal
-
-pub returns : goal.returns
-returns c = heard_alike

@@ -1,2 +1,0 @@
-pub mod CameBy
-pub mod Heard
