@@ -7,6 +7,7 @@ ghost use Rattle.ent_eval.specs.Evaluator.{Evaluator, OnlyCounts, evaluator_of};
 ghost use Rattle.ent_eval.specs.Exchange.{FitsHeld, HasPlace, held_with, taken_from};
 ghost use Rattle.ent_eval.specs.LooksOf.{held_by, looks_of};
 ghost use Rattle.ent_eval.specs.Names.{request_of};
+ghost use Rattle.ent_eval.specs.Point.{Point};
 
 use crate::exchange::Exchange;
 use crate::pdp::{Explained, ListedEvaluation, Pdp};
@@ -23,12 +24,17 @@ pub trait Evaluates: Drop {
     type Attributes: Attributes;
     /// Where the documents are held.
     type Policies: Policies;
+    /// What one is made of: a decision point.
+    type Pdp: Drop;
+
+    // The decision point that it is.
+    ghost point: { Self.Pdp → Point };
 
     ghost evaluator: { Self → Evaluator };
 
     /// An evaluator that owns a decision point, and remembers nothing yet. Nothing is allocated.
-    fn of(alloc: Global, pdp: Pdp<Self::Attributes, Self::Policies>) -> Self
-        ensures { evaluator result ≡ evaluator_of pdp };
+    fn of(alloc: Global, pdp: Self::Pdp) -> Self
+        ensures { evaluator result ≡ evaluator_of (point pdp) };
 
     /// The answer to the request of a cell (section 7), and the questions that were asked for it, each once, by their
     /// numbers. One that has no number yet gets one; the others keep theirs, whatever comes. The look-ups that the

@@ -39,6 +39,10 @@ impl<A: Attributes, P: Policies> Evaluates for Evaluator<A, P> {
 
     type Policies = P;
 
+    type Pdp = Pdp<A, P>;
+
+    ghost point = { λ p. p };
+
     ghost evaluator = { λ e. e };
 
     fn of(alloc: Global, pdp: Pdp<A, P>) -> Evaluator<A, P>

@@ -18,9 +18,9 @@ use Rattle.ent_table.proofs.Kept.{fresh_answers}
 pub unlike_changes : (s t : State) (old new : List Kept) → t.names ≡ s.names → old ≡ fresh_cells s → new ≡ fresh_cells t → unlike_count (answers_in old) (answers_in new) ≡ changes s (next t)
 unlike_changes s t old new names was is = (λ i. unlike_count (fresh_answers s old was i) (fresh_answers t new is i)) ∙ sym (changes-same_names s (next t) names)
 
-module _ {E A P : Type 0} where
+module _ {E A P D : Type 0} where
   -- where state, cells, count of documents and what is logged are as before, the cells are right as before
-  pub fresh_again : (old new : ReviewParts E A P) → IsFresh old → new.table.cells.kept ≡ old.table.cells.kept → new.documents ≡ old.documents
+  pub fresh_again : (old new : ReviewParts E A P D) → IsFresh old → new.table.cells.kept ≡ old.table.cells.kept → new.documents ≡ old.documents
       → IsSameLog old.log new.log → room_of old.log ≤ room_of new.log → Stays old new → IsFresh new
   fresh_again old new is cells documents log grows same = record {
     cells = cells ∙ is.cells ∙ ap (λ (u : State). fresh_cells u) (sym same);

@@ -161,9 +161,9 @@ undone_more s list name none =
 
 -- ---- tables as maps
 
-module _ {E A P : Type 0} where
+module _ {E A P D : Type 0} where
   -- over an edit whose old answers undo it
-  pub kept_over : (old new : ReviewParts E A P) (between : Log Who Answer) (olds : List (OldAnswer Who Answer)) → IsSameLog old.log between → Logs olds between new.log
+  pub kept_over : (old new : ReviewParts E A P D) (between : Log Who Answer) (olds : List (OldAnswer Who Answer)) → IsSameLog old.log between → Logs olds between new.log
       → Undoes request_order olds (answer_at (state_of old)) (answer_at (state_of new)) → Keeps old new
   kept_over old new between olds same logs undoes =
       let s : State = state_of old in
@@ -178,17 +178,17 @@ module _ {E A P : Type 0} where
       }
 
   -- where the log and the state are as before
-  pub kept_stays : (old new : ReviewParts E A P) → IsSameLog old.log new.log → Stays old new → Keeps old new
+  pub kept_stays : (old new : ReviewParts E A P D) → IsSameLog old.log new.log → Stays old new → Keeps old new
   kept_stays old new same stays = record {
     from = same.from;
     each = λ n le i. map_before request_order (logged_answers (entries_since n (same.entries i))) (answers_of (stays i));
   }
 
-  pub kept_itself : (v : ReviewParts E A P) → Keeps v v
+  pub kept_itself : (v : ReviewParts E A P D) → Keeps v v
   kept_itself v = record { from = refl; each = λ n le. refl }
 
   -- the difference of a table at a serial and the present one, as that of their maps
-  pub difference_told : (v : ReviewParts E A P) (n : ℕ) (changes : List (LoggedChange Who Answer))
+  pub difference_told : (v : ReviewParts E A P D) (n : ℕ) (changes : List (LoggedChange Who Answer))
       → IsDifference request_order same_answer (table_at request_order v.log (answer_at (state_of v)) n) (answer_at (state_of v)) changes
       → changes ≡ map_difference same_answer (table_at_serial (reviewed v) n) (answers_of (state_of v))
   difference_told v n changes d =
@@ -201,5 +201,5 @@ module _ {E A P : Type 0} where
       d)
 
   -- the present table is the one at the present serial
-  pub table_now : (v : ReviewParts E A P) → IsFresh v → IsFreshAtSerial (reviewed v)
+  pub table_now : (v : ReviewParts E A P D) → IsFresh v → IsFreshAtSerial (reviewed v)
   table_now v fresh = ap (λ es. map_before request_order (logged_answers es) (answers_of (state_of v))) fresh.closed

@@ -19,22 +19,22 @@ exchange-undone s ss (Row number key values) are h = values_undone s ss number k
 exchange-undone s ss (Root root) are h = refl
 exchange-undone s ss (Environment environment) are h = refl
 
-module _ {E A P : Type 0} where
+module _ {E A P D : Type 0} where
   -- of two changes each left all but what is held
-  pub held_twice : (old between new : ReviewParts E A P) → OnlyHeld old between → OnlyHeld between new → OnlyHeld old new
+  pub held_twice : (old between new : ReviewParts E A P D) → OnlyHeld old between → OnlyHeld between new → OnlyHeld old new
   held_twice old between new one two =
       two
-      ∙ ap (λ (v : ReviewParts E A P). record v {
+      ∙ ap (λ (v : ReviewParts E A P D). record v {
         table = record v.table { cells = record v.table.cells { evaluator = new.table.cells.evaluator } };
       }) one
 
-module _ {E A P : Type 0} where
+module _ {E A P D : Type 0} where
   -- where what was exchanged is exchanged with what stood there, the state is as before both
-  pub taken_back : (old between new : ReviewParts E A P) (x back : Exchange) → IsWithin (state_of old) x → state_of between ≡ with_exchange (state_of old) x → back ≡ taken (state_of old) x
+  pub taken_back : (old between new : ReviewParts E A P D) (x back : Exchange) → IsWithin (state_of old) x → state_of between ≡ with_exchange (state_of old) x → back ≡ taken (state_of old) x
       → state_of new ≡ with_exchange (state_of between) back → state_of new ≡ state_of old
   taken_back old between new x back h there is again =
       again ∙ (λ i. with_exchange (there i) (is i)) ∙ exchange-undone (state_of old) (point_of old).sources x refl h
 
-  pub made_back : (before now new : ReviewParts E A P) (back : Exchange) → IsMade before now back → state_of new ≡ with_exchange (state_of now) back
+  pub made_back : (before now new : ReviewParts E A P D) (back : Exchange) → IsMade before now back → state_of new ≡ with_exchange (state_of now) back
       → state_of new ≡ state_of before
   made_back before now new back made again = taken_back before now new made.0 back made.1 made.2 made.3 again

@@ -21,21 +21,21 @@ people_left (person ∷ people) actions left all_actions resources =
     actions_left person actions left resources ++ all_triples people all_actions resources
 
 -- the requests that are left
-abbrev pub requests_left : {E A P : Type 0} → Cells E A P → List Triple
+abbrev pub requests_left : {E A P D : Type 0} → Cells E A P D → List Triple
 requests_left c =
     people_left (texts c.people.now) (texts c.actions.now) (texts c.resources.now)
     (texts c.all_actions.now) (texts c.all_resources.now)
 
 -- the answers that are left
-abbrev pub answers_left : {E A P : Type 0} → Cells E A P → List Answer
+abbrev pub answers_left : {E A P D : Type 0} → Cells E A P D → List Answer
 answers_left c = drop c.place (answers_in c.answers.now.kept)
 
 -- the requests that are left, each with its answer
-abbrev pub cells_left : {E A P : Type 0} → Cells E A P → List (Triple × Answer)
+abbrev pub cells_left : {E A P D : Type 0} → Cells E A P D → List (Triple × Answer)
 cells_left c = zip (requests_left c) (answers_left c)
 
 -- the cells that an iterator of judged cells has left, each with whether a part of it failed
-abbrev pub judged_left : {E A P : Type 0} → Judged E A P → List ((Triple × Answer) × Bool)
+abbrev pub judged_left : {E A P D : Type 0} → Judged E A P D → List ((Triple × Answer) × Bool)
 judged_left j = zip (cells_left j.cells) (drop j.place (failures_in j.marks.now.kept))
 
 -- an item as a request with its answer

@@ -24,7 +24,7 @@ column stride (person ∷ people) [] = []
 column stride (person ∷ people) (a ∷ answers) = (person, a) ∷ column stride people (drop stride (a ∷ answers))
 
 -- the people that are left, each with its answer
-abbrev pub column_left : {E A P : Type 0} → Column E A P → List (List ℕ × Answer)
+abbrev pub column_left : {E A P D : Type 0} → Column E A P D → List (List ℕ × Answer)
 column_left c = column c.stride (texts c.people.now) (drop c.place (answers_in c.answers.now.kept))
 
 -- an item as a person with an answer

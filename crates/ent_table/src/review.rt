@@ -19,7 +19,7 @@ use crate::judged::Judged;
 use crate::limits::Limits;
 use crate::review_parts::ReviewParts;
 use crate::table::Table;
-use ent_eval::{Answer, Environment, Evaluates, Exchange, Pdp};
+use ent_eval::{Answer, Environment, Evaluates, Exchange};
 use ent_finder::Policies;
 use ent_log::Log;
 use ent_values::Shared;
@@ -56,19 +56,20 @@ impl<E: Evaluates> Review<E> {
     ///
     /// Its contract leaves open: how the tables before are kept, of which there are none. State, count and the first
     /// serial are said.
-    pub fn new(alloc: Global, pdp: Pdp<E::Attributes, E::Policies>, limits: Limits) -> Review<E>
+    pub fn new(alloc: Global, pdp: E::Pdp, limits: Limits) -> Review<E>
         requires { IsWithinGreatest limits }
-        ensures state { result.state ≡ initial (held_by pdp) limits }
-        ensures counted { result.evaluations ≡ pdp.evaluations }
+        ensures state { result.state ≡ initial (held_by (E.point pdp)) limits }
+        ensures counted { result.evaluations ≡ (E.point pdp).evaluations }
         ensures from { result.past.from ≡ 0 }
         ensures now { IsFreshAtSerial result }
     {
-        let documents = pdp.policies().document_count();
+        let evaluator = E::of(alloc, pdp);
+        let documents = evaluator.pdp().policies().document_count();
         Review {
             parts: ReviewParts {
                 alloc,
                 limits,
-                table: Table::new(alloc, E::of(alloc, pdp)),
+                table: Table::new(alloc, evaluator),
                 log: Log::new(alloc),
                 documents,
             },

@@ -17,29 +17,29 @@ IsTested r (Ok done) = IsOk r
 IsTested r (Err fault) = IsRefusal r fault
 
 -- a step is tried on the state: it has no fault but want of memory, or the one that is told
-abbrev pub Tries : {E A P B : Type 0} → (State → Result State EditFault) → ReviewParts E A P → Result B EditFault → Type 0
+abbrev pub Tries : {E A P D B : Type 0} → (State → Result State EditFault) → ReviewParts E A P D → Result B EditFault → Type 0
 Tries step v result = IsTested (step (state_of v)) result
 
 -- the state becomes what a change makes of it
-abbrev pub Becomes : {E A P : Type 0} → (State → State) → ReviewParts E A P → ReviewParts E A P → Type 0
+abbrev pub Becomes : {E A P D : Type 0} → (State → State) → ReviewParts E A P D → ReviewParts E A P D → Type 0
 Becomes change old new = state_of new ≡ change (state_of old)
 
 -- the state stays
-abbrev pub Stays : {E A P : Type 0} → ReviewParts E A P → ReviewParts E A P → Type 0
+abbrev pub Stays : {E A P D : Type 0} → ReviewParts E A P D → ReviewParts E A P D → Type 0
 Stays old new = state_of new ≡ state_of old
 
 -- the state becomes another by a step, and it is answered as that step is
-abbrev pub Makes : {E A P : Type 0} → (State → Result State EditFault)
-    → ReviewParts E A P → ReviewParts E A P → Result Accepted EditFault → Type 0
+abbrev pub Makes : {E A P D : Type 0} → (State → Result State EditFault)
+    → ReviewParts E A P D → ReviewParts E A P D → Result Accepted EditFault → Type 0
 Makes step old new result = Edits step (state_of old) (state_of new) result
 
 -- the table at each serial so far stays what it was
-abbrev pub Keeps : {E A P : Type 0} → ReviewParts E A P → ReviewParts E A P → Type 0
+abbrev pub Keeps : {E A P D : Type 0} → ReviewParts E A P D → ReviewParts E A P D → Type 0
 Keeps old new = KeepsTables (reviewed old) (reviewed new)
 
 -- the count of evaluations rises with an edit as its step says
-abbrev pub Counted : {E A P : Type 0} → (State → Result State EditFault)
-    → ReviewParts E A P → ReviewParts E A P → Result Accepted EditFault → Type 0
+abbrev pub Counted : {E A P D : Type 0} → (State → Result State EditFault)
+    → ReviewParts E A P D → ReviewParts E A P D → Result Accepted EditFault → Type 0
 Counted step old new result =
     (point_of old).evaluations ≤ most
     → IsCounted (step (state_of old)) (state_of old) (point_of old).evaluations (point_of new).evaluations result

@@ -38,7 +38,7 @@ abbrev pub IsWithin : State → Exchange → Type 0
 IsWithin s x = FitsHeld s.held x
 
 -- there is a place for it, so that it takes no memory
-abbrev pub IsThere : {E A P : Type 0} → ReviewParts E A P → Exchange → Type 0
+abbrev pub IsThere : {E A P D : Type 0} → ReviewParts E A P D → Exchange → Type 0
 IsThere v x = HasPlace (point_of v) x
 
 -- how many documents are held after it
@@ -46,17 +46,17 @@ abbrev pub count_with : State → Exchange → ℕ
 count_with s x = document_count (with_exchange s x).held.modules
 
 -- only what is held changed, and what its evaluator remembers
-abbrev pub OnlyHeld : {E A P : Type 0} → ReviewParts E A P → ReviewParts E A P → Type 0
+abbrev pub OnlyHeld : {E A P D : Type 0} → ReviewParts E A P D → ReviewParts E A P D → Type 0
 OnlyHeld old new = new ≡ record old {
   table = record old.table { cells = record old.table.cells { evaluator = new.table.cells.evaluator } };
 }
 
 -- the same number of evaluations is counted
-abbrev pub CountsSame : {E A P : Type 0} → ReviewParts E A P → ReviewParts E A P → Type 0
+abbrev pub CountsSame : {E A P D : Type 0} → ReviewParts E A P D → ReviewParts E A P D → Type 0
 CountsSame old new = (point_of new).evaluations ≡ (point_of old).evaluations
 
 -- a review became another by an exchange, of which this stood there
-abbrev pub IsMade : {E A P : Type 0} → ReviewParts E A P → ReviewParts E A P → Exchange → Type 0
+abbrev pub IsMade : {E A P D : Type 0} → ReviewParts E A P D → ReviewParts E A P D → Exchange → Type 0
 IsMade before now back =
     (x : Exchange) × IsWithin (state_of before) x
     × (state_of now ≡ with_exchange (state_of before) x)

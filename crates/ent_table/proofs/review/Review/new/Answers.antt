@@ -1,6 +1,5 @@
 use Rattle.std.proofs.Common.{◌≡◌, ◌≤◌, ◌^◌, List, length, map, sym, ap, subst, ◌∙◌, arith}
 use Rattle.ent_cells.specs.Cell.{cell_of}
-use Rattle.ent_eval.specs.Evaluator.{Evaluator}
 use Rattle.ent_eval.specs.LooksOf.{held_by, looks_of}
 use Rattle.ent_finder.specs.Slots.{Slots, document_count, held}
 use Rattle.ent_log.specs.Tables.{room_of}
@@ -11,14 +10,13 @@ pub invariant_of-result : goal.invariant_of-result
 invariant_of-result g c =
     let empty = c.new.ensures in
     let log = c.new-2.result in
-    let made : c.new.result.cells.evaluator.pdp ≡ c.args.pdp =
-    ap (λ t. t.cells.evaluator.pdp) empty ∙ ap (λ (e : Evaluator). e.pdp) c.of.ensures in
+    let same = ap (λ t. t.cells.evaluator.pdp) empty in
     record {
       cells = ap (λ t. t.cells.kept) empty
           ∙ sym (ap (λ t. map (cell_of (looks_of c.new.result.cells.evaluator.pdp)) (triples t.names)) empty);
       documents = c.document_count-documents.ensures
           ∙ ap (λ (slots : List Slots). document_count (map held slots)) c.policies.ensures
-          ∙ ap (λ p. document_count (held_by p).modules) (sym made);
+          ∙ ap (λ p. document_count (held_by p).modules) (c.pdp.ensures ∙ sym same);
       serial = subst (λ n. n ≤ 2 ^ 63) (sym c.new-2.ensures.serial) (omega arith);
       limits = c.requires;
       closed = c.new-2.ensures.closed;
