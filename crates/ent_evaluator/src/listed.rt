@@ -27,7 +27,10 @@ impl<A: Attributes, P: Policies> EvaluatorParts<A, P> {
     ///
     /// Its contract leaves open: which numbers new questions get, what the memory holds beside what it must, and
     /// whether anything is remembered at all. Answer, look-ups, whether a part failed, and the count are said whole.
-    pub fn evaluate_listed(&mut self, names: Names<'_>) -> Result<ListedEvaluation, AllocError>
+    pub(crate) fn evaluate_listed(
+        &mut self,
+        names: Names<'_>,
+    ) -> Result<ListedEvaluation, AllocError>
         requires knows { Knows self.old }
         ensures answer { IfOk result (λ e. e.answer ≡ answer (looks_of self.old.pdp) (request_by names.entry)) }
         ensures asked { IfOk result (λ e. at_numbers self.new.questions e.asked

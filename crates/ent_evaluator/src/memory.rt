@@ -59,7 +59,7 @@ impl Memory {
     /// The values in rows of a name may be others from now on, and nothing else: what was found for it is forgotten.
     ///
     /// Its contract leaves open: how much it forgets beside what the name had: all would do.
-    pub fn forget_name(&mut self, alloc: Global, name: &Text)
+    pub(crate) fn forget_name(&mut self, alloc: Global, name: &Text)
         ensures { (before after : Looks) (questions : List Question) → DifferAtMost name.now before after
             → Remembers before questions self.old → Remembers after questions self.new }
     {
@@ -74,7 +74,7 @@ impl Memory {
     /// forgotten, and the plan of tests is compared before it is used again.
     ///
     /// Its contract leaves open: how much it forgets beside what rests on them: all would do.
-    pub fn forget_documents(&mut self, alloc: Global)
+    pub(crate) fn forget_documents(&mut self, alloc: Global)
         ensures { (before after : Looks) (questions : List Question) → HaveSameValues before after
             → Remembers before questions self.old → Remembers after questions self.new }
     {
@@ -85,7 +85,7 @@ impl Memory {
     /// Forgets all, where more is remembered than is to be kept.
     ///
     /// Its contract leaves open: how much it forgets, nothing included.
-    pub fn forget_much(&mut self, alloc: Global)
+    pub(crate) fn forget_much(&mut self, alloc: Global)
         ensures { (looks : Looks) (questions : List Question) → Remembers looks questions self.old
             → Remembers looks questions self.new }
     {

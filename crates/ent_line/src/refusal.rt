@@ -74,7 +74,7 @@ impl Refusal {
     /// The sub-code that is told beside the number, of a document.
     ///
     /// Its contract is an equation.
-    pub fn sub_code(self) -> Option<u8>
+    pub(crate) fn sub_code(self) -> Option<u8>
         ensures { result ≡ sub_of self }
     {
         match self {

@@ -34,7 +34,10 @@ fn literal<J: JsonTree>(alloc: Global, value: &J) -> Result<RawLiteral, CheckFau
 ///
 /// Its contract is an equation but for memory.
 #[tactic(auto, unfolding(crate::specs::Expressions::value_of))]
-pub fn attribute_value<J: JsonTree>(alloc: Global, object: &J) -> Result<RawValue, CheckFault>
+pub(crate) fn attribute_value<J: JsonTree>(
+    alloc: Global,
+    object: &J,
+) -> Result<RawValue, CheckFault>
     ensures { Gives result (value_of (J.content object.now)) }
 {
     if !object.has_only(&["DataType", "Value"]) {
@@ -50,7 +53,10 @@ pub fn attribute_value<J: JsonTree>(alloc: Global, object: &J) -> Result<RawValu
 ///
 /// Its contract is an equation but for memory.
 #[tactic(auto, unfolding(crate::specs::Expressions::designator_of))]
-pub fn designator<J: JsonTree>(alloc: Global, object: &J) -> Result<RawDesignator, CheckFault>
+pub(crate) fn designator<J: JsonTree>(
+    alloc: Global,
+    object: &J,
+) -> Result<RawDesignator, CheckFault>
     ensures { Gives result (designator_of (J.content object.now)) }
 {
     let keys = [

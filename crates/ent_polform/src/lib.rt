@@ -17,10 +17,7 @@ mod value;
 mod written_documents;
 mod written_values;
 
-pub use expression::{
-    attribute_value as raw_value, designator as raw_designator, expression as raw_expression,
-    named as raw_named,
-};
+pub use expression::{expression as raw_expression, named as raw_named};
 pub use form::{
     child as raw_child, definition as raw_definition, policy as raw_policy, raw_document,
     read_document, rule as raw_rule, set as raw_set,
@@ -30,7 +27,7 @@ pub use law::{
     documents_are_shallow, documents_read_back, levels_are_read_alike, references_read_back,
     values_read_back,
 };
-pub use reference::{kind as reference_kind, read_reference, reference as raw_reference};
+pub use reference::{read_reference, reference as raw_reference};
 pub use target::{
     all_of as raw_all_of, any_of as raw_any_of, one_match as raw_match, target as raw_target,
 };

@@ -24,7 +24,7 @@ pub(crate) fn reference_key(kind: Kind) -> &'static str
 /// The kind of document to which a reference of that key leads.
 ///
 /// Its contract is an equation.
-pub fn kind(key: &str) -> Option<Kind>
+pub(crate) fn kind(key: &str) -> Option<Kind>
     ensures { result ≡ kind_of key.now }
 {
     if key == reference_key(Kind::Policy) {

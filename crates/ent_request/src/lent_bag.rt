@@ -48,7 +48,7 @@ impl<'a> LentBag<'a> {
     /// Of values that all have that type.
     ///
     /// Its contract is an equation.
-    pub fn lying(datatype: DataType, values: &'a [Value]) -> LentBag<'a>
+    pub(crate) fn lying(datatype: DataType, values: &'a [Value]) -> LentBag<'a>
         requires { AllOfType datatype values.now }
         ensures { result ≡ record { datatype = datatype; values = values.now } }
     {
@@ -61,7 +61,7 @@ impl<'a> LentBag<'a> {
     /// Of a bag, which is moved and not copied.
     ///
     /// Its contract is an equation but for memory.
-    pub fn owned(alloc: Global, bag: Bag) -> Result<LentBag<'a>, AllocError>
+    pub(crate) fn owned(alloc: Global, bag: Bag) -> Result<LentBag<'a>, AllocError>
         ensures { IfOk result (λ b. b ≡ bag) }
     {
         Ok(LentBag {

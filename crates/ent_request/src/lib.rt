@@ -32,8 +32,8 @@ pub use given::{Assignment, Given};
 pub use key::ReadKey;
 pub use lent_bag::LentBag;
 pub use look_ups::LookUps;
-pub use own::{Sought, own_values, same_issuer, same_text};
-pub use own_bag::{is_among, is_empty, lacks, only_own};
+pub use own::{Sought, same_issuer};
+pub use own_bag::{is_among, lacks, only_own};
 pub use question::{Asked, Question, same_reference};
 pub use questions::Questions;
 pub use readers::{

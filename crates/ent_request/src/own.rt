@@ -50,7 +50,7 @@ impl<'a> Sought<'a> {
 /// The request's own values, where one slice has them all: where they don't lie in several attributes.
 ///
 /// Its contract is an equation.
-pub fn own_values<'a>(request: &'a Request, sought: &Sought<'_>) -> Option<&'a [Value]>
+pub(crate) fn own_values<'a>(request: &'a Request, sought: &Sought<'_>) -> Option<&'a [Value]>
     ensures { MatchOption result (AreSeveral (own_values (designator_of sought.now) request.now))
         (λ v. IsWhole sought.now.datatype (own_values (designator_of sought.now) request.now) v.now) }
 {
@@ -119,7 +119,7 @@ fn has_issuer(wanted: Option<&str>, issuer: &Option<Text>) -> bool
 /// Whether two texts are equal. Most that differ do so in their lengths already, which lie nearer than their bytes.
 ///
 /// Its contract is an equation.
-pub fn same_text(first: &str, second: &str) -> bool
+pub(crate) fn same_text(first: &str, second: &str) -> bool
     ensures { result ≡ bytes_eq first.now second.now }
 {
     first.len() == second.len() && first == second

@@ -127,7 +127,7 @@ pub fn only_own<'a>(request: &'a Request, sought: &Sought<'_>) -> Option<&'a Val
 /// Whether there is no value.
 ///
 /// Its contract is an equation.
-pub fn is_empty(values: &[Value]) -> bool
+pub(crate) fn is_empty(values: &[Value]) -> bool
     ensures { result ≡ is_empty values.now }
 {
     match values {

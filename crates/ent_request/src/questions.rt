@@ -60,7 +60,7 @@ impl Questions {
     /// Whether there are none.
     ///
     /// Its contract is an equation.
-    pub fn is_empty(&self) -> bool
+    pub(crate) fn is_empty(&self) -> bool
         ensures { IsTrue result ↔ (self.now ≡ []) }
     {
         self.questions.as_slice().is_empty()

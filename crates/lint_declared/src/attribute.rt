@@ -46,7 +46,7 @@ impl DeclaredAttribute {
     /// same, and the issuer is if this one has one (section 7.3.4).
     ///
     /// Its contract is an equation.
-    pub fn finds(&self, attribute: &DeclaredAttribute) -> bool
+    pub(crate) fn finds(&self, attribute: &DeclaredAttribute) -> bool
         ensures { result ≡ finds self.now attribute.now }
     {
         self.category == attribute.category

@@ -15,8 +15,6 @@ mod together;
 
 pub use held::Held;
 pub use law::{endless_is_without_end, unfound_references_find_none};
-pub use missing::unfound;
-pub use placed::{PlacedReference, references_of};
-pub use root::unreached;
+pub use placed::PlacedReference;
 pub use state::{StateFault, StoredState};
 pub use together::{Together, ToldLinks};

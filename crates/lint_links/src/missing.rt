@@ -30,7 +30,7 @@ fn finds_none(docs: &MapDocs, found: &FoundDocuments, placed: &PlacedReference) 
 /// `AllocError` if memory runs out.
 ///
 /// Its contract is an equation but for memory.
-pub fn unfound(
+pub(crate) fn unfound(
     alloc: Global,
     docs: &MapDocs,
     document: &Document,

@@ -103,7 +103,7 @@ fn gather_set(
 ///
 /// Its contract is an equation but for memory.
 #[tactic(auto, using(crate::proofs::Levels::set_level))]
-pub fn references_of(
+pub(crate) fn references_of(
     alloc: Global,
     document: &Document,
 ) -> Result<Items<PlacedReference>, AllocError>

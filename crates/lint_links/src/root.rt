@@ -91,7 +91,7 @@ fn reached_in(alloc: Global, docs: MapDocs, root: &Option<Reference>) -> Result<
 /// `AllocError` if memory runs out.
 ///
 /// Its contract is an equation but for memory.
-pub fn unreached(
+pub(crate) fn unreached(
     alloc: Global,
     docs: MapDocs,
     root: &Option<Reference>,

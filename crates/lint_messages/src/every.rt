@@ -59,7 +59,7 @@ fn lines_of<J: JsonTree>(
 ///
 /// Its contract leaves open: the sentences, lines and columns, whether the search was cut, and which faults are told
 /// behind the first.
-pub fn explain_faults<J: JsonTree>(
+pub(crate) fn explain_faults<J: JsonTree>(
     alloc: Global,
     text: &[u8],
     json: &J,

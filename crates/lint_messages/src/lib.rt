@@ -28,11 +28,11 @@ mod variables;
 mod warned;
 mod words;
 
-pub use every::{ExplainedFaults, explain_all, explain_faults};
+pub use every::{ExplainedFaults, explain_all};
 pub use line::one_line;
 pub use merge::is_merge_marker;
 pub use places::Places;
 pub use position::{Position, line_and_column};
-pub use refused::{explain, explain_document, explain_text, placed};
+pub use refused::{explain, explain_text, placed};
 pub use warned::warnings;
 pub use words::shortened;

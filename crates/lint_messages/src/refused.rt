@@ -86,7 +86,7 @@ pub fn placed(alloc: Global, pointer: &str, sentence: &str) -> Result<String, Al
 /// `AllocError` if memory runs out.
 ///
 /// Its contract leaves open: the sentence, its line and its column, and which of several places of the fault.
-pub fn explain_document<J: JsonTree>(
+pub(crate) fn explain_document<J: JsonTree>(
     alloc: Global,
     text: &[u8],
     json: &J,

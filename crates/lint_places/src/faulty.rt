@@ -31,7 +31,7 @@ pub(crate) fn is_fault(fault: DocFault, told: Option<DocFault>) -> bool
 /// `AllocError` if memory runs out.
 ///
 /// Its contract is an equation but for memory.
-pub fn is_faulty<J: JsonTree>(
+pub(crate) fn is_faulty<J: JsonTree>(
     alloc: Global,
     fault: DocFault,
     part: Part,

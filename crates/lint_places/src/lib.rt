@@ -22,9 +22,8 @@ mod told_lists;
 mod weight;
 
 pub use faults::{Faults, MOST_FAULTS, leads_to_one, places_of};
-pub use faulty::is_faulty;
 pub use own::Faulty;
 pub use part::Part;
-pub use parts_told::{scope_told, told};
+pub use parts_told::told;
 pub use place::{Place, place_of};
 pub use scope::Scope;

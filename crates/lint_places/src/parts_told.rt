@@ -50,7 +50,7 @@ pub fn told<J: JsonTree>(
 /// `AllocError` if memory runs out.
 ///
 /// Its contract is an equation but for memory.
-pub fn scope_told<J: JsonTree>(
+pub(crate) fn scope_told<J: JsonTree>(
     alloc: Global,
     scope: &Scope<'_, J>,
 ) -> Result<Option<DocFault>, AllocError>

@@ -65,7 +65,7 @@ impl<'a, J: JsonTree> Scope<'a, J> {
     /// The scope of what stands in no policy.
     ///
     /// Its contract is an equation.
-    pub fn nowhere(alloc: Global) -> Scope<'a, J>
+    pub(crate) fn nowhere(alloc: Global) -> Scope<'a, J>
         ensures scope { scope_of J.content result ≡ nowhere }
         ensures clear { result.clear ≡ false }
     {
@@ -125,7 +125,7 @@ impl<'a, J: JsonTree> Scope<'a, J> {
     /// `AllocError` if memory runs out.
     ///
     /// Its contract is an equation but for memory.
-    pub fn copied(&self, alloc: Global) -> Result<Scope<'a, J>, AllocError>
+    pub(crate) fn copied(&self, alloc: Global) -> Result<Scope<'a, J>, AllocError>
         ensures same { IfOk result (λ s. scope_of J.content s ≡ scope_of J.content self.now) }
         ensures clear { IfOk result (λ s. s.clear ≡ self.now.clear) }
     {

@@ -24,7 +24,7 @@ impl Finding {
     /// The question.
     ///
     /// Its contract is an equation.
-    pub fn about(self) -> About
+    pub(crate) fn about(self) -> About
         ensures { result ≡ about_of self }
     {
         About {

@@ -102,7 +102,7 @@ impl Findings {
     ///
     /// Its contract leaves open: which number a bag has that wasn't there, or that is there twice, and what else is
     /// kept.
-    pub fn bag_of<L: LookUps>(
+    pub(crate) fn bag_of<L: LookUps>(
         &mut self,
         scene: &Scene<'_, L>,
         question: u32,
