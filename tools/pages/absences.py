@@ -15,7 +15,7 @@ PAGE = ROOT / 'docs' / 'ARCHITECTURE.md'
 COMMANDS = (r'"(?:(?:person|action|resource)\.(?:add|drop)|(?:attr|day|moment|root)\.set'
             r'|policy\.(?:add|replace|withdraw))')
 PROGRAMS = ['conformance', 'faults_told', 'attributes_told', 'together_told', 'review', 'review_with_options']
-EVALUATING = ['ent_request', 'ent_trace', 'ent_walk', 'memo_plan', 'memo_plan', 'memo_bags', 'memo_tests', 'memo_answers',
+EVALUATING = ['ent_request', 'ent_trace', 'ent_walk', 'memo_plan', 'memo_bags', 'memo_tests', 'memo_answers',
               'memo_replay', 'ent_eval', 'ent_evaluator']
 PARTS_OF_AN_EVALUATOR = [f'ent_evaluator/src/{name}.rt'
                          for name in ('parts', 'listed', 'asking', 'exchange', 'evaluator')]
@@ -117,7 +117,7 @@ def evaluations():
 
 def remembering():
     yield from named(['ent_evaluator'], but=['ent_program'] + TRIALS)
-    memory = ['memo_bags', 'memo_tests', 'memo_answers', 'memo_replay', 'memo_plan', 'memo_plan', 'memo_trie']
+    memory = ['memo_bags', 'memo_tests', 'memo_answers', 'memo_replay', 'memo_plan', 'memo_trie']
     yield from named(memory, but=memory + ['ent_evaluator'])
 
 
@@ -161,16 +161,19 @@ def unseen():
 
 
 # Calls that are asked for by name, or stay for now, and that no part of the program makes.
-UNCALLED = ['ent_polform write_document', 'ent_profile write_given', 'ent_profile write_response',
-            'ent_index Index::cells_of', 'ent_program check_from',
+UNCALLED = ['ent_polform write_document', 'ent_polform write_value', 'ent_profile write_given',
+            'ent_profile write_response', 'ent_index Index::cells_of', 'ent_index Index::forget',
+            'ent_dump dump_lines_within', 'ent_line serve', 'ent_line serve_within',
+            'ent_program check_from',
             'law_split merge_who', 'law_split merge_by_rule', 'law_split sum_counts', 'law_split sum_changes']
 
 
 def given_out(crate):
-    """The names that a crate gives out."""
+    """The names that a crate gives out, each with what it is inside."""
     library = CRATES / crate / 'src' / 'lib.rt'
-    uses = re.findall(r'pub use [\w:]+::(?:\{([^}]*)\}|(\w+));', code(library)) if library.exists() else []
-    return {word for many, one in uses for word in re.findall(r'\w+', many or one)}
+    uses = re.findall(r'pub use [\w:]+::(?:\{([^}]*)\}|([\w ]+));', code(library)) if library.exists() else []
+    items = [item.split() for many, one in uses for item in (many or one).split(',') if item.strip()]
+    return {item[0]: item[-1] for item in items}
 
 
 def public_calls(crate):
@@ -183,17 +186,17 @@ def public_calls(crate):
             deep = '    ' if owner else ''
             for name, law in re.findall(rf'(?ms)^{deep}pub fn (\w+).*?^{deep}\{{(\}}?)$', body):
                 if (owner or name) in names and not law:
-                    yield owner, name
+                    yield (names[owner], name) if owner else ('', names[name])
 
 
 def is_called(crate, owner, name, texts):
-    """Whether a call of that name stands where it may: in the crate, or in one that stands on it; of a function only
-    where it is imported."""
+    """Whether a call of that name stands in a crate that stands on this one; of a function only where it is
+    imported."""
     call = re.compile(rf'(?<!fn )\b{name}\b(?=\s*(?:::<[^>]*>)?\(|[,)])')
     for path, (uses, text) in texts.items():
         other = where(path).split('/')[0]
-        if other == crate or crate in LINES[other] and (owner or name in uses):
-            if name in text and call.search(text):
+        if crate in LINES[other] and name in text:
+            if (owner or name in uses) and call.search(text) or f'{crate}::{name}(' in text:
                 return True
     return False
 

@@ -46,7 +46,7 @@ impl<A: Attributes, P: Policies> EvaluatorParts<A, P> {
     /// Those of an evaluator that remembers nothing yet. Nothing is allocated.
     ///
     /// Its contract leaves open: what the memory holds: any that is true of what is held would do.
-    pub fn of(alloc: Global, pdp: Pdp<A, P>) -> EvaluatorParts<A, P>
+    pub(crate) fn of(alloc: Global, pdp: Pdp<A, P>) -> EvaluatorParts<A, P>
         ensures pdp { result.pdp ≡ pdp }
         ensures questions { result.questions ≡ [] }
         ensures knows { Knows result }

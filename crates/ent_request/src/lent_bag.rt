@@ -36,7 +36,7 @@ impl<'a> LentBag<'a> {
     /// The empty bag of a type.
     ///
     /// Its contract is an equation.
-    pub fn empty(datatype: DataType) -> LentBag<'a>
+    pub(crate) fn empty(datatype: DataType) -> LentBag<'a>
         ensures { result ≡ record { datatype = datatype; values = [] } }
     {
         LentBag {

@@ -125,7 +125,7 @@ impl Listed {
     /// Whether a name is among them, in time logarithmic in their number. It takes no memory.
     ///
     /// Its contract is an equation.
-    pub fn has(&self, name: &ListedName) -> bool
+    pub(crate) fn has(&self, name: &ListedName) -> bool
         ensures { result ≡ has_name name.now self.now }
     {
         self.names.contains(name)

@@ -24,6 +24,5 @@ mod weight;
 pub use faults::{Faults, MOST_FAULTS, leads_to_one, places_of};
 pub use own::Faulty;
 pub use part::Part;
-pub use parts_told::told;
 pub use place::{Place, place_of};
 pub use scope::Scope;

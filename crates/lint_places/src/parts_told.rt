@@ -32,7 +32,7 @@ use std::alloc::{AllocError, Global};
 /// `AllocError` if memory runs out.
 ///
 /// Its contract is an equation but for memory.
-pub fn told<J: JsonTree>(
+pub(crate) fn told<J: JsonTree>(
     alloc: Global,
     part: Part,
     scope: &Scope<'_, J>,

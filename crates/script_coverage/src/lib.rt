@@ -6,7 +6,6 @@ mod rules;
 mod seen;
 mod telling;
 
-pub use policies::push_policies;
-pub use rules::{RuleName, push_rules, unseen};
+pub use rules::{RuleName, unseen};
 pub use seen::see_reply;
-pub use telling::{shown, told};
+pub use telling::shown;

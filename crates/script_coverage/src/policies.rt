@@ -30,7 +30,7 @@ fn push_policy<'v>(child: &'v Value, policies: &mut Vec<&'v Value>) -> Result<()
 ///
 /// Its contract is an equation but for memory.
 #[cycle(policies)]
-pub fn push_policies<'v>(
+pub(crate) fn push_policies<'v>(
     levels: usize,
     child: &'v Value,
     policies: &mut Vec<&'v Value>,

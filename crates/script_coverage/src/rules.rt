@@ -47,7 +47,10 @@ fn name_of<'v>(policy: &'v Value, rule: &'v Value) -> RuleName<'v>
 /// `AllocError` if memory runs out.
 ///
 /// Its contract is an equation but for memory.
-pub fn push_rules<'v>(policy: &'v Value, rules: &mut Vec<RuleName<'v>>) -> Result<(), AllocError>
+pub(crate) fn push_rules<'v>(
+    policy: &'v Value,
+    rules: &mut Vec<RuleName<'v>>,
+) -> Result<(), AllocError>
     ensures { OnOk result (map name_view rules.new.items
         ≡ map name_view rules.old.items ++ rules_of (view policy.now)) }
 {

@@ -43,7 +43,7 @@ fn rule_values(alloc: Global, rules: &[RuleName<'_>]) -> Result<Vec<Value>, Allo
 /// `AllocError` if memory runs out.
 ///
 /// Its contract is an equation but for memory.
-pub fn told(alloc: Global, count: usize, rules: &[RuleName<'_>]) -> Result<Value, AllocError>
+pub(crate) fn told(alloc: Global, count: usize, rules: &[RuleName<'_>]) -> Result<Value, AllocError>
     ensures { IfOk result (λ v. view v ≡ told_data count (map name_view rules.now)) }
 {
     let seen = count.saturating_sub(rules.len());
