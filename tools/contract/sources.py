@@ -10,7 +10,7 @@ FIELD = re.compile(r'^ {4}(?:pub(?:\([a-z]+\))? )?(\w+): (.*?),?$', re.M)
 MODEL = re.compile(r'^impl\b[^\n]*?\bModel for (\w+)[^\n]*\{\n(.*?)^\}', re.M | re.S)
 VALUE = re.compile(r'ghost Value = \{ (\w+)')
 RECORD = re.compile(r'^pub record (\w+)[^\n]*where\n((?:  [^\n]*\n|\n)+)', re.M)
-USE = re.compile(r'^(?:pub )?use (ent_\w+)::([^;]+);', re.M)
+USE = re.compile(r'^(?:pub )?use ((?:ent|memo|lint|script|law|cli)_\w+)::([^;]+);', re.M)
 SPEC_FIELD = re.compile(r'^  (?:pub )?(\w+) : (.*)', re.M)
 
 

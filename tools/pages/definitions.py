@@ -22,6 +22,8 @@ from reached import imports, is_apart, lines, modules, split, without_comments, 
 from standard import citations, order, title  # noqa: E402
 
 DOCS = ROOT / 'docs'
+# The name of a crate of ours.
+OURS = r'(?:ent|memo|lint|script|law|cli)_\w+'
 HEADLINE = 'Rattle.ent_line.specs.Headline'
 EVALUATION = "The standard's evaluation"
 MOST = 600
@@ -86,7 +88,7 @@ def check_claims(page, known):
         cells = row.split('|')
         if len(cells) < 4:
             continue
-        crates = dict.fromkeys(re.findall(r'ent_\w+', cells[3] + cells[1]))
+        crates = dict.fromkeys(re.findall(OURS, cells[3] + cells[1]))
         for word in re.findall(r'\b[A-Z]\w+', cells[3]):
             if not any(f'Rattle.{crate}.specs.{word}' in known for crate in crates):
                 sys.exit(f'docs/VERIFIED.md: no module {word} of {", ".join(crates)}')
@@ -111,7 +113,7 @@ def declared(others):
     found = {}
     for module in others:
         crate, name = split(module)
-        if crate.startswith('ent_') and name.startswith('declared.'):
+        if re.match(OURS, crate) and name.startswith('declared.'):
             found.setdefault(crate, set()).add(name.split('.')[2])
     return found
 
@@ -121,7 +123,7 @@ def kit(others):
     found = {}
     for module, words in sorted(others.items()):
         crate, name = split(module)
-        if not crate.startswith('ent_'):
+        if not re.match(OURS, crate):
             found.setdefault(crate, {})[name] = words
     return found
 
@@ -182,7 +184,7 @@ def with_lines(page):
         return f'| `{found[1]}` | {sum(counts)} | {told} |'
 
     page = re.sub(r'^\| `(crates/[^`]*\.antt)` \|[^|]*\|', row, page, flags=re.M)
-    return re.sub(r'^\| `(ent_\w+)` \|[^|]*\|([^|]*)\|', row_of_crate, page, flags=re.M)
+    return re.sub(rf'^\| `({OURS})` \|[^|]*\|([^|]*)\|', row_of_crate, page, flags=re.M)
 
 
 def passed_on(path):
@@ -233,7 +235,7 @@ def paths_in(text):
 
 def of_crates(text):
     """The modules in tables of one crate a row."""
-    rows = re.findall(r'^\| `(ent_\w+)` \|[^|]*\|([^|]*)\|', text, re.M)
+    rows = re.findall(rf'^\| `({OURS})` \|[^|]*\|([^|]*)\|', text, re.M)
     return {f'Rattle.{crate}.specs.{name.split()[0]}' for crate, names in rows for name in names.split(',')}
 
 

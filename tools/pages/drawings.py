@@ -33,8 +33,8 @@ WORDS = {
     'Evaluator.evaluate': 'Evaluates the request of a cell',
     'Evaluator.answer': 'Answers any request',
     'Evaluator.exchange': 'Forgets what rests on it, then exchanges it',
-    'Parts.add_policy': 'Stores a document where none has its key',
-    'Parts.set_attribute': 'Sets the values of a row',
+    'ReviewParts.add_policy': 'Stores a document where none has its key',
+    'ReviewParts.set_attribute': 'Sets the values of a row',
     'Memory.recall': 'Looks for a case for which the same was found for its names',
     'Memory.sign': 'Finds what each test comes to: known, or evaluated alone',
     'Memory.told': 'Looks for a case whose tests came to the same',
@@ -43,7 +43,7 @@ WORDS = {
     'Pdp.evaluate_numbered': 'Evaluates the request by a walk over the policy',
     'Live.settle': 'Makes right again the cells that read a changed key',
     'Live.narrow': 'Drops the cells of a name, and logs their answers',
-    'Parts.log_edit': 'Logs the old answers under the new serial',
+    'ReviewParts.log_edit': 'Logs the old answers under the new serial',
     'Column.new': 'Begins with the first person',
     'request.read_request': 'Reads a request of the JSON Profile',
 }
@@ -53,18 +53,21 @@ DRAWINGS = {
         serving.serve_within input.take_piece serving.answer_line Service.handle line.read_json asking.command_in
         Service.change Service.question Service.mark making.read_edit Desk.edit Desk.mark reply.send_reply'''),
     'edit': ('Desk.edit', '''
-        Review.edit Parts.add_policy Parts.set_attribute Parts.add_name Parts.drop_name Parts.make
-        Parts.exchange_and_tell Live.exchange Live.settle Live.add Live.narrow Parts.log_edit Parts.take_back
-        Store.touched phases.prepare phases.commit_all phases.give_up_all Evaluator.exchange Evaluator.evaluate'''),
+        Review.edit ReviewParts.add_policy ReviewParts.set_attribute ReviewParts.add_name ReviewParts.drop_name
+        ReviewParts.make ReviewParts.exchange_and_tell Live.exchange Live.settle Live.add Live.narrow
+        ReviewParts.log_edit ReviewParts.take_back Store.touched phases.prepare phases.commit_all phases.give_up_all
+        Evaluator.exchange Evaluator.evaluate'''),
     'cell': ('Evaluator.evaluate', '''
-        Parts.evaluate_listed Parts.recalled Memory.recall Parts.evaluate_by_tests Memory.sign Memory.told
-        Memory.joined joined.join Parts.evaluate_signed Parts.evaluate_untold Parts.evaluate_anew
-        Pdp.evaluate_numbered Walk.answer Parts.keep Memory.put'''),
+        EvaluatorParts.evaluate_listed EvaluatorParts.recalled Memory.recall EvaluatorParts.evaluate_by_tests
+        Memory.sign Memory.told Memory.joined joined.join EvaluatorParts.evaluate_signed
+        EvaluatorParts.evaluate_untold EvaluatorParts.evaluate_anew Pdp.evaluate_numbered Walk.answer
+        EvaluatorParts.keep Memory.put'''),
     'question': ('Service.who', '''
         Desk.who Review.listed Review.answers_to Column.new reports.who_in reports.who_text'''),
     'ask': ('Service.ask', '''
         request.read_request Desk.ask_shared Review.ask_shared Live.answer_to Evaluator.answer names.names_in
-        Parts.answer_to Parts.answer_anew Parts.evaluate_listed Pdp.answer Walk.answer cell.response_text'''),
+        EvaluatorParts.answer_to EvaluatorParts.answer_anew EvaluatorParts.evaluate_listed Pdp.answer Walk.answer
+        cell.response_text'''),
 }
 
 
