@@ -1,3 +1,2 @@
-pub mod AtEnd
 pub mod RowsSwapped
 pub mod SlotsSwapped

@@ -25,7 +25,7 @@ use Rattle.memo_answers.specs.declared.tests.EntryTests.{EntryTests as Learnt}
 use Rattle.memo_answers.specs.declared.told.ToldAnswer.{ToldAnswer}
 use Rattle.memo_replay.specs.Joined.{IsJoined}
 use Rattle.memo_replay.specs.declared.joined.Joined.{Joined}
-use Rattle.memo_plan.proofs.AtEnd.{any_once}
+use Rattle.ent_trace.proofs.AtEnd.{any_once}
 use Rattle.memo_plan.proofs.Ways.{way_still}
 use Rattle.memo_answers.proofs.ByWays.{answers_told, cases_told, stay_told}
 use Rattle.memo_answers.proofs.Kept.{tells_grow, tells_once, tests_at, tests_grow}

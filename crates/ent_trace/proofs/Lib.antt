@@ -1,3 +1,4 @@
+pub mod AtEnd
 pub mod KeysAsked
 pub mod Marking
 pub mod MetBefore

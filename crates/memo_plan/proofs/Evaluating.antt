@@ -16,7 +16,7 @@ use Rattle.ent_walk.specs.proofs_only.Comes.{Adds, Comes}
 use Rattle.memo_plan.specs.CameBy.{came_by}
 use Rattle.memo_plan.specs.Heard.{gist_of}
 use Rattle.memo_plan.specs.declared.tested.Tested.{Tested}
-use Rattle.memo_plan.proofs.AtEnd.{failed_is, told_questions}
+use Rattle.ent_trace.proofs.AtEnd.{failed_is, told_questions}
 use Rattle.memo_plan.specs.Alone.{task_part}
 use Rattle.memo_plan.specs.Plan.{task_came}
 use Rattle.memo_plan.specs.declared.task.TestTask.{TestTask}

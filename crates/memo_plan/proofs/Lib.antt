@@ -1,4 +1,3 @@
-pub mod AtEnd
 pub mod EqualWays
 pub mod Evaluating
 pub mod Gists

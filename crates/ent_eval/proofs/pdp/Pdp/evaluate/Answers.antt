@@ -8,7 +8,7 @@ use Rattle.ent_request.specs.Noted.{noted}
 use Rattle.ent_request.specs.Sources.{keys_of}
 use Rattle.ent_trace.specs.proofs_only.Noted.{asked_once}
 use Rattle.ent_trace.proofs.KeysAsked.{asked_keys}
-use Rattle.ent_eval.proofs.AtEnd.{told_questions}
+use Rattle.ent_trace.proofs.AtEnd.{told_questions}
 use Rattle.ent_eval.proofs.pdp.Pdp.evaluate.Goals as goal
 
 pub returns-clause-reads : goal.returns-clause-reads

@@ -4,7 +4,7 @@ use Rattle.ent_walk.specs.Answer.{answer_part, asked}
 use Rattle.ent_eval.specs.LooksOf.{looks_of}
 use Rattle.ent_eval.specs.Point.{Point}
 use Rattle.ent_request.specs.Questions.{AreNumbers, asked_once, at_numbers}
-use Rattle.ent_eval.proofs.AtEnd.{told_failed, told_questions}
+use Rattle.ent_trace.proofs.AtEnd.{told_failed, told_questions}
 use Rattle.ent_eval.proofs.pdp.Pdp.evaluate_numbered.Goals as goal
 
 pub returns-clause-evaluated : goal.returns-clause-evaluated
