@@ -109,7 +109,9 @@ def class_of(out, kind, texts, function, types):
     for sort, parts in [(EQUATION, said[EQUATION]), (BUT, said[EQUATION] | said[BUT])]:
         if is_whole(kind, parts, function, types):
             return sort
-    return BUT if kind.startswith(('Result<()', 'io::Result<()')) else OPEN
+    refused = re.match(r'^Result<\(\), (\w+)>', kind)
+    is_fault = not refused or refused[1] == 'AllocError' or refused[1].endswith('Fault')
+    return BUT if kind.startswith(('Result<()', 'io::Result<()')) and is_fault else OPEN
 
 
 def is_whole(kind, paths, function, types, depth=3):
@@ -158,7 +160,7 @@ def without_binders(text):
 def parts_said(text, name, fields, others):
     """The fields of a value that an equality says: those that its own side names, or all but those that it leaves. A
     side that names other parameters shows something of both, and not this value."""
-    if '⊎' in text or '→' in text:
+    if '⊎' in text or '→' in text or re.match(r'^\(\w+ : [^()]*(?:\([^()]*\)[^()]*)*\) × ', text):
         return set()
     if one := re.match(r'^IsTrue (\S+) ↔ ', text):
         return {''} if one[1] == name else set()

@@ -14,7 +14,7 @@ CRATES = ROOT / 'crates'
 PAGE = ROOT / 'docs' / 'ARCHITECTURE.md'
 COMMANDS = (r'"(?:(?:person|action|resource)\.(?:add|drop)|(?:attr|day|moment|root)\.set'
             r'|policy\.(?:add|replace|withdraw))')
-PROGRAMS = ['conformance', 'faults_told', 'attributes_told', 'together_told', 'review', 'review_with_options']
+PROGRAMS = ['conformance', 'lint_told', 'review', 'review_with_options']
 EVALUATING = ['ent_request', 'ent_trace', 'ent_walk', 'memo_plan', 'memo_bags', 'memo_tests', 'memo_answers',
               'memo_replay', 'ent_eval', 'ent_evaluator']
 PARTS_OF_AN_EVALUATOR = [f'ent_evaluator/src/{name}.rt'
@@ -94,8 +94,14 @@ def in_sessions_files():
 
 def places_in_the_service():
     words = ['lint_meaning', 'lint_places', 'lint_messages', 'lint_declared', 'lint_links']
-    told = ['faults_told', 'attributes_told', 'together_told']
-    yield from named(words, but=words + ['ent_program'] + told + TRIALS)
+    yield from named(words, but=words + ['cli_check', 'lint_told'] + TRIALS)
+
+
+def service_in_the_check():
+    words = ['lint_meaning', 'lint_places', 'lint_messages', 'lint_declared', 'lint_links']
+    read = ['ent_polform', 'ent_json', 'ent_policy', 'ent_values']
+    yield from stands_on('cli_check', [*words, *read, 'ent_wire', 'cli_words'])
+    yield from stands_on('cli_words', ['ent_wire'])
 
 
 def around_combining():
@@ -116,7 +122,7 @@ def evaluations():
 
 
 def remembering():
-    yield from named(['ent_evaluator'], but=['ent_program'] + TRIALS)
+    yield from named(['ent_evaluator'], but=['cli_serve'] + TRIALS)
     memory = ['memo_bags', 'memo_tests', 'memo_answers', 'memo_replay', 'memo_plan', 'memo_trie']
     yield from named(memory, but=memory + ['ent_evaluator'])
 
@@ -128,15 +134,15 @@ def unchecked_documents():
 
 
 def boxed_modules():
-    makers = ['ent_program/src/running.rt', 'lint_links/src/root.rt']
+    makers = ['cli_serve/src/running.rt', 'lint_links/src/root.rt']
     yield from found(r'\bBox::new\b', but=makers + TRIALS)
     yield from found(r'\bdyn\b', but=makers + ['ent_finder/'] + TRIALS)
 
 
 def files_and_streams():
-    above = ['ent_program/'] + [f'{name}/' for name in PROGRAMS + TRIALS]
+    above = ['cli_', 'ent_program/'] + [f'{name}/' for name in PROGRAMS + TRIALS]
     yield from found(r'[:+]\s*(?:Files|Env|Input|Print|Eprint)\b', but=above)
-    yield from named(['clap'], but=['ent_program'] + TRIALS)
+    yield from named(['clap'], but=['cli_words', 'cli_serve', 'ent_program'] + TRIALS)
 
 
 def clocks():
@@ -163,8 +169,7 @@ def unseen():
 # Calls that are asked for by name, or stay for now, and that no part of the program makes.
 UNCALLED = ['ent_polform write_document', 'ent_polform write_value', 'ent_profile write_given',
             'ent_profile write_response', 'ent_index Index::cells_of', 'ent_index Index::forget',
-            'ent_dump dump_lines_within', 'ent_line serve', 'ent_line serve_within',
-            'ent_program check_from',
+            'ent_dump dump_lines_within', 'ent_line serve', 'ent_line serve_within', 'cli_check check_from',
             'law_split merge_who', 'law_split merge_by_rule', 'law_split sum_counts', 'law_split sum_changes']
 
 
@@ -230,23 +235,25 @@ CHECKS = {
     'JSON between the edges': json_between,
     'JSON and commands in files of sessions': in_sessions_files,
     'places of faults in the service': places_in_the_service,
+    'the service in what checks documents': service_in_the_check,
     'any other crate, and memory, in `ent_combine`': around_combining,
-    'commands below `ent_dump` and `ent_line`':
-        lambda: found(COMMANDS, but=['ent_dump/', 'ent_line/', 'lint_links/src/state.rt',
+    'commands below `ent_dump` and `ent_command`':
+        lambda: found(COMMANDS, but=['ent_dump/', 'ent_command/', 'lint_links/src/state.rt',
                                      'lint_declared/src/claim.rt', 'lint_declared/src/listed.rt',
-                                     'lint_declared/src/setting.rt', 'attributes_told/'] + TRIALS),
+                                     'lint_declared/src/setting.rt', 'lint_told/'] + TRIALS),
     'sessions and marks in a review': lambda: found(r'(?i)session', BELOW_LINES, ('src', 'specs')),
     'the table in the log and in the index': table_in_the_log,
     'finders and modules in the evaluator':
         lambda: found(r'\b(?:Attributes|Policies)\b', EVALUATING,
                       but=['ent_eval/src/pdp.rt', 'ent_eval/src/evaluates.rt', *PARTS_OF_AN_EVALUATOR]),
     'keys of look-ups above the table':
-        lambda: found(r'\bReadKey\b', ['ent_report', 'ent_dump', 'ent_line', 'ent_program'], ('src', 'specs')),
+        lambda: found(r'\bReadKey\b', ['ent_command', 'ent_report', 'ent_dump', 'ent_line', 'cli_serve', 'cli_test',
+                                       'cli_compare'], ('src', 'specs')),
     'evaluations made elsewhere': evaluations,
     'what is remembered above the evaluator': remembering,
     "documents that weren't checked": unchecked_documents,
     'boxed modules that a library makes': boxed_modules,
-    'files, streams, the command line below `ent_program`': files_and_streams,
+    'files, streams, the command line below the program\'s crates': files_and_streams,
     'clocks, threads, sockets': clocks,
     'memory at a commit, a way back, a drop': memory_at_commit,
     "what a clause doesn't see": unseen,

@@ -10,7 +10,7 @@ import re
 import sys
 
 ROOT = pathlib.Path(__file__).resolve().parents[2]
-ASKED = ROOT / 'crates' / 'ent_line' / 'specs' / 'Asked.antt'
+ASKED = ROOT / 'crates' / 'ent_command' / 'specs' / 'Asked.antt'
 PAGE = ROOT / 'docs' / 'COMMANDS.md'
 FORM = re.compile(r'form \(codes "([^"]+)"\)\s+(\[\]|\((?:codes "[^"]+"\s+∷ )+\[\]\))')
 # A definition of the table, and what its forms are.

@@ -121,7 +121,7 @@ def listed(crates, names):
 def main():
     crates = {}
     types = sources.types_of(TOP)
-    for crate in sorted(path.parent.name for path in TOP.glob('crates/ent_*/src')):
+    for crate in sorted(path.parent.name for room in ('ent', 'cli') for path in TOP.glob(f'crates/{room}_*/src')):
         functions = [reading.read(one, types) for one in sources.functions_of(TOP / 'crates' / crate) if one.is_public]
         crates[crate] = [one for one in functions if one.given]
     crates = {crate: functions for crate, functions in crates.items() if functions}

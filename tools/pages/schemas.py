@@ -2,7 +2,7 @@
 """Writes JSON Schemas (2020-12) of what people write: documents, requests, lines, and what tests expect. Editors
 complete and mark by them as one types. They are made of the tables that the reader itself goes by: which keys a part
 has (lint_places), which it must have (lint_messages), which functions, algorithms and types there are (ent_functions,
-ent_combine, ent_values), and which keys a command has (ent_line).
+ent_combine, ent_values), and which keys a command has (ent_command).
 
     schemas.py             writes tools/schemas/
     schemas.py --check     says whether they are up to date, and whether tools/xacml_form/names.py has the reader's

@@ -11,7 +11,7 @@ import re
 import sys
 
 TOP = pathlib.Path(__file__).resolve().parents[2]
-PLACES = ['crates/ent_program/src/words.rt', 'crates/trials/src/program.rt', 'docs/OPERATING.md']
+PLACES = ['crates/cli_words/src/words.rt', 'crates/trials/src/program.rt', 'docs/OPERATING.md']
 STANDS = re.compile(r'\b(\d+\.\d+\.\d+)( \(logic [0-9a-f]{16}\))')
 CHANGES, OPEN = TOP / 'CHANGELOG.md', re.compile(r'^## (?:After \S+|\S+, to come)$', re.M)
 

@@ -6,8 +6,10 @@ from .functions import CYCLE, HEAD, IMPL, body_at
 
 # Crates whose bodies stand within their functions, one at a time, until each of them was seen beside its function.
 WITHIN = {
-    *('ent_eval', 'ent_cells', 'ent_table', 'ent_dump', 'ent_report', 'law_split', 'ent_line', 'ent_program', 'ent_telling'),
-    *('ent_profile', 'ent_polform', 'lint_places', 'lint_messages', 'lint_declared', 'lint_links'),
+    *('ent_eval', 'ent_cells', 'ent_table', 'ent_command', 'ent_dump', 'ent_report', 'law_split', 'ent_line'),
+    *('ent_telling', 'ent_profile', 'ent_polform', 'lint_places', 'lint_messages', 'lint_declared', 'lint_links'),
+    'ent_program',
+    *('cli_words', 'cli_check', 'cli_replies', 'cli_serve', 'cli_test', 'cli_compare'),
 }
 
 

@@ -39,7 +39,8 @@ FED = {
     'rights served': ('serve', 'examples/rights/rights.jsonl'),
     'todo served': ('serve', 'examples/todo/todo.jsonl'),
 }
-PROGRAMS = {'document': 'faults_told', 'attributes': 'attributes_told', 'together': 'together_told'}
+# The parts of what lint_told reads, by the words of heads.
+TOLD = {'document': b'documents', 'attributes': b'attributes', 'together': b'links'}
 PROCESSOR_SECONDS, CLOCK_SECONDS, MOST_MEMORY = 10, 120, 3 << 30
 # As many numbers of wrong bodies as shown.c has room for.
 MOST_NUMBERS = 4096
@@ -72,9 +73,8 @@ class Call:
         return '\n'.join(said)
 
 
-def in_parts(path):
-    """The parts of a stored file, each from a line `# NAME` to the next, by their names."""
-    whole = path.read_bytes()
+def parts_of(whole):
+    """The parts of a stored text, each from a line `# NAME` to the next, by their names."""
     parts = [part for part in re.split(rb'(?m)^(?=# )', whole) if part.startswith(b'# ')]
     return {part.split(b'\n', 1)[0][2:].decode().strip(): part for part in parts}
 
@@ -85,12 +85,13 @@ def calls(top, trials):
 
     def add(name, words, text=b''):
         found[name] = Call(name, words, text)
-    for name, text in in_parts(top / 'crates/conformance/stdin').items():
+    for name, text in parts_of((top / 'crates/conformance/stdin').read_bytes()).items():
         add(f'session {name}', ['test', 'FILE'], text)
-    for kind, program in PROGRAMS.items():
-        before = b''
-        for name, text in in_parts(top / 'crates' / program / 'stdin').items():
-            add(f'{kind} {name}', [program.replace('_', '-')], before + text)
+    told = (top / 'crates/lint_told/stdin').read_bytes()
+    for kind, part in TOLD.items():
+        before = heading = b'=== ' + part + b'\n'
+        for name, text in parts_of(told.split(heading, 1)[1].split(b'\n=== ', 1)[0] + b'\n').items():
+            add(f'{kind} {name}', ['lint-told'], before + text)
             # (attributes that are declared stay so for what comes behind)
             before += text if kind == 'attributes' else b''
     for name in ['review', 'review_with_options']:

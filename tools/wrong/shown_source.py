@@ -18,13 +18,14 @@ pub(crate) fn {CHOSEN}(number: u32) -> bool {{
     number == u32::MAX
 }}
 '''
-TOLD = ['attributes_told', 'faults_told', 'together_told']
+TOLD = 'lint_told'
 MAIN = '''//! `review`, one of the programs that tell of documents, or a trial, by the first word.
 #![tactic(auto)]
 
 {modules}
 
-use ent_program::{{given_words, run}};
+use cli_words::given_words;
+use ent_program::run;
 use std::io::IsTerminal;
 use std::process::ExitCode;
 use std::test::Fail;
@@ -108,7 +109,7 @@ def crate_files(crate, numbered):
 def as_module(text):
     """The main file of a program as a module that has `run`."""
     text = text.replace('#![tactic(auto)]\n', '')
-    text = text[:text.index('\nfn main(')]
+    text = re.sub(r'(?m)^mod \w+;\n', '', text[:text.index('\nfn main(')])
     return text.replace('\nfn run<', '\npub(crate) fn run<').replace('use std::process::ExitCode;\n', '')
 
 
@@ -128,14 +129,17 @@ def trials_of(name, text):
 def program_files(top):
     """The texts of the program's sources by path, and the names of its trials."""
     texts, trials = {}, []
-    for name in TOLD:
-        text = (top / 'crates' / name / 'src/main.rt').read_text(encoding='utf-8')
-        texts[f'src/{name}.rt'] = as_module(text)
+    for path in sorted((top / 'crates' / TOLD / 'src').glob('*.rt')):
+        text = path.read_text(encoding='utf-8')
+        if path.stem == 'main':
+            texts[f'src/{TOLD}.rt'] = as_module(text)
+        else:
+            texts[f'src/{path.name}'] = text
     for path in sorted((top / 'crates/trials/src').glob('*.rt')):
         if path.stem != 'lib':
             found, texts[f'src/{path.name}'] = trials_of(path.stem, path.read_text(encoding='utf-8'))
             trials += found
-    arms = [f'"{name.replace("_", "-")}" => return Ok(ExitCode::from({name}::run(&rt))),' for name in TOLD]
+    arms = [f'"{TOLD.replace("_", "-")}" => return Ok(ExitCode::from({TOLD}::run(&rt))),']
     for name, has_result in trials:
         arms += [f'"{name}" => {{', f'    {name}(rt){"?" * has_result};', '    return Ok(ExitCode::from(0));', '}']
     modules = '\n'.join(f'mod {pathlib.PurePath(path).stem};' for path in sorted(texts))
@@ -159,7 +163,7 @@ def all_files(top, numbered):
     by_crate = {}
     for number, edit in numbered:
         by_crate.setdefault(edit.crate.name, []).append((number, edit))
-    uses = sorted({one for name in [*TOLD, 'trials', 'review'] for one in named[name]})
+    uses = sorted({one for name in [TOLD, 'trials', 'review'] for one in named[name]})
     below, todo = set(), [one for one in uses if one in named]
     while todo:
         name = todo.pop()

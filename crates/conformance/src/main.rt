@@ -4,7 +4,7 @@
 
 ghost use Rattle.std.specs.Prelude.{◌≡◌, ◌⊎◌};
 
-use ent_program::{Tally, TestPlan, send_tally, test_from};
+use cli_test::{Tally, TestPlan, send_tally, test_from};
 use std::io;
 use std::io::{BufReader, BufWriter, Write};
 use std::process::ExitCode;

@@ -1,6 +1,5 @@
 -- The whole of an input, and the lines that are written of it.
-use Rattle.std.proofs.Common.{◌≡◌, ◌∙◌, ◌≤◌, ◌+◌, ◌*◌, ◌++◌, suc, arith, length-append, inl, inr, ℕ, List, [], true, false, Option, Some, None, Result, Ok, Err, ap, append-nil}
-use Rattle.std.proofs.Common.{option_map, subst, sym}
+use Rattle.std.proofs.Common.{◌≡◌, ◌∙◌, ◌≤◌, ◌+◌, ◌*◌, ◌++◌, suc, arith, length-append, inl, inr, ℕ, List, [], true, false, Option, Some, None, Result, Ok, Err, ap, append-nil, option_map, subst, sym}
 use Rattle.std.specs.Prelude.{⊤, option_and_then}
 use Rattle.std.specs.Io.KnownBytes.{Consumes, Keeps}
 use Rattle.std.proofs.KnownBytes.{Consumes-trans}

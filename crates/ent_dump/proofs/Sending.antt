@@ -1,24 +1,12 @@
 -- Fronts of what is written, and what was read piece by piece.
-use Rattle.std.proofs.Common.{◌≡◌, ℕ, zero, suc, ◌+◌, ◌-◌, ◌<◌, List, [], ◌∷◌, ◌++◌, length, take, drop, get_or, Option, Err, Result, Ok, sym, ap, subst, ◌∙◌}
-use Rattle.std.proofs.Common.{arith, take_all, length-drop, append-nil, append_assoc, take-append-drop, drop-cons, map, refl, Some}
+use Rattle.std.proofs.Common.{◌≡◌, ℕ, zero, suc, ◌+◌, ◌-◌, ◌<◌, List, [], ◌∷◌, ◌++◌, length, take, drop, get_or, Option, Err, Result, Ok, sym, ap, subst, ◌∙◌, arith, append-nil, append_assoc, take-append-drop, drop-cons, map, refl, Some}
 use Rattle.std.specs.Prelude.{⊤}
 use Rattle.std.specs.List.{flat_map}
 use Rattle.std.proofs.lemmas.List.Concat.{flat_map-append}
-use Rattle.std.proofs.Math.Seq.{take-add}
 use Rattle.std.specs.Io.KnownBytes.{Appends}
 use Rattle.std.proofs.KnownBytes.{Appends-trans}
 use Rattle.ent_dump.specs.Lines.{Sends, WritesTold, ended}
 use Rattle.ent_dump.specs.declared.fault.LinesFault.{LinesFault}
-
-pub Appends-more : (before mid after : Option (List ℕ)) (bytes : List ℕ) (sent n : ℕ)
-    → Appends before mid (take sent bytes) → Appends mid after (take n (take (length bytes - sent) (drop sent bytes)))
-    → Appends before after (take (sent + n) bytes)
-Appends-more before mid after bytes sent n p q =
-    let rest : take (length bytes - sent) (drop sent bytes) ≡ drop sent bytes = take_all (length bytes - sent) (drop sent bytes)
-    (omega (arith, length-drop sent bytes)) in
-    let whole : take (sent + n) bytes ≡ take sent bytes ++ take n (take (length bytes - sent) (drop sent bytes)) = take-add sent n bytes
-    ∙ ap (λ t. take sent bytes ++ take n t) (sym rest) in
-    subst (Appends before after) (sym whole) (Appends-trans before mid after (take sent bytes) (take n (take (length bytes - sent) (drop sent bytes))) p q)
 
 -- all of one part was written after the bytes before it
 pub sent_on : {A : Type 0} (f : A → List ℕ) (before mid after : Option (List ℕ)) (xs : List A) (i : ℕ) (d : A) → i < length xs

@@ -1,6 +1,5 @@
 -- The lines that are read of a reply.
-use Rattle.std.proofs.Common.{◌≡◌, ◌==◌, ◌∙◌, ◌+◌, ◌<◌, ℕ, suc, List, [], ◌∷◌, Bool, true, false, Option, Some, None, ap, arith, drop, drop-cons, get_or}
-use Rattle.std.proofs.Common.{length, map, not, refl, is_some, option_map, sym}
+use Rattle.std.proofs.Common.{◌≡◌, ◌==◌, ◌∙◌, ◌+◌, ◌<◌, ℕ, suc, List, [], ◌∷◌, Bool, true, false, Option, Some, None, ap, arith, drop, drop-cons, get_or, length, map, not, refl, is_some, option_map, sym}
 use Rattle.std.specs.Prelude.{codes, if◌then◌else◌, option_and_then}
 use Rattle.std.specs.List.{list_any}
 use Rattle.serde_json.specs.Data as json

@@ -1,6 +1,5 @@
 -- A walk over entries, modules or names, each of which is written as lines.
-use Rattle.std.proofs.Common.{◌≡◌, ◌==◌, ◌++◌, ◌∙◌, ℕ, zero, suc, ◌+◌, ◌<◌, ◌≤◌, false, List, [], ◌∷◌, Option, Some, None, ap, refl, sym, arith, map}
-use Rattle.std.proofs.Common.{drop, drop-cons, get_or, length, append-nil, append_assoc, codes, filter_map, OnOk, Result, Ok, Err}
+use Rattle.std.proofs.Common.{◌≡◌, ◌==◌, ◌++◌, ◌∙◌, ℕ, zero, suc, ◌+◌, ◌<◌, ◌≤◌, false, List, [], ◌∷◌, Option, Some, None, ap, refl, sym, arith, map, drop, drop-cons, get_or, length, append-nil, append_assoc, codes, filter_map, OnOk, Result, Ok, Err}
 use Rattle.std.specs.Prelude.{filter, slice_get, slice_index_or}
 use Rattle.std.specs.List.{enumerate_from, flat_map}
 use Rattle.json.specs.Token as token
@@ -24,8 +23,7 @@ use Rattle.ent_table.specs.State.{State}
 use Rattle.ent_table.specs.declared.edit.Edit.{Edit}
 use Rattle.ent_table.specs.declared.edit.Edit.TheVariants.{AddName}
 use Rattle.ent_table.specs.declared.edit.List.{List as Which}
-use Rattle.law_rebuild.specs.Rebuilding.{all_documents, all_names, all_rows, document_edit, environment_edits, module_edits, name_edits, rebuilding, root_edits}
-use Rattle.law_rebuild.specs.Rebuilding.{row_edit, source_edits}
+use Rattle.law_rebuild.specs.Rebuilding.{all_documents, all_names, all_rows, document_edit, environment_edits, module_edits, name_edits, rebuilding, root_edits, row_edit, source_edits}
 use Rattle.ent_dump.specs.Dumped.{dump_data, format_data}
 use Rattle.ent_dump.specs.Edits.{edit_data, edit_line, row_data}
 use Rattle.ent_dump.specs.proofs_only.Walk.{filled_edits, held_edits, line_tokens, slot_edits}

@@ -5,8 +5,8 @@ ghost use Rattle.ent_finder.specs.Rows.{filled_source, source_at};
 ghost use Rattle.ent_finder.specs.Slots.{held, module_at};
 ghost use Rattle.ent_eval.specs.LooksOf.{held_by};
 ghost use Rattle.ent_json.specs.Text.{tokens_of};
-ghost use Rattle.law_rebuild.specs.Rebuilding.{all_documents, all_rows, environment_edits, module_edits};
-ghost use Rattle.law_rebuild.specs.Rebuilding.{name_edits, rebuilding, root_edits, source_edits};
+ghost use Rattle.law_rebuild.specs.Rebuilding.{all_documents, all_rows, environment_edits, module_edits, name_edits};
+ghost use Rattle.law_rebuild.specs.Rebuilding.{rebuilding, root_edits, source_edits};
 ghost use Rattle.ent_dump.specs.Dumped.{dump_data, dump_text};
 ghost use Rattle.ent_dump.specs.proofs_only.Walk.{held_edits, line_tokens};
 

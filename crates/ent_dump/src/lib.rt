@@ -13,4 +13,3 @@ mod told;
 pub use dump::dump_text;
 pub use fault::LinesFault;
 pub use lines::{dump_lines, dump_lines_within};
-pub use output::send;

@@ -1,6 +1,5 @@
 -- Lines that only ask leave all but the count of evaluations, on which no answer to them rests.
-use Rattle.std.proofs.Common.{◌≡◌, ◌≤◌, ◌+◌, ℕ, min, List, [], ◌∷◌, length, Bool, true, false, All, Option, Some, None, Result, Ok, Err}
-use Rattle.std.proofs.Common.{refl, sym, ap, subst, ◌∙◌, inl, inr, arith}
+use Rattle.std.proofs.Common.{◌≡◌, ◌≤◌, ◌+◌, ℕ, min, List, [], ◌∷◌, length, Bool, true, false, All, Option, Some, None, Result, Ok, Err, refl, sym, ap, subst, ◌∙◌, inl, inr, arith}
 use Rattle.std.specs.Prelude.{if◌then◌else◌, nat_lt, option_and_then}
 use Rattle.std.specs.Option.{option_map_or}
 use Rattle.std.specs.Result.{result_ok}
@@ -9,20 +8,21 @@ use Rattle.serde_json.specs.Data.{Data}
 use Rattle.ent_cells.specs.Count.{most, raised}
 use Rattle.ent_report.specs.World.{World}
 use Rattle.ent_table.specs.AnswerMap.{AnswerMap}
-use Rattle.ent_line.specs.Asked as asked
-use Rattle.ent_line.specs.Asked.{Command, Question, command_in}
-use Rattle.ent_line.specs.Asking.{IsAsked, is_asking, only_asks, recounted}
+use Rattle.ent_command.specs.Asked as asked
+use Rattle.ent_command.specs.Asked.{Command, Question, command_in}
+use Rattle.ent_line.specs.Asking.{IsAsked, recounted}
+use Rattle.ent_command.specs.Asking.{is_asking, only_asks}
 use Rattle.ent_line.specs.Beside.{Beside}
 use Rattle.ent_line.specs.Commands.{heard, requested, respond, run, told}
 use Rattle.ent_line.specs.Known.{known_after}
-use Rattle.ent_line.specs.Lines.{line_limit}
+use Rattle.ent_wire.specs.Lines.{line_limit}
 use Rattle.ent_line.specs.Replies as replies
 use Rattle.ent_line.specs.Replies.{Answer, answered, refused}
 use Rattle.ent_line.specs.Runs.{Run}
 use Rattle.ent_line.specs.Step.{AnswersAfter, Counted, Counts, data_of}
 use Rattle.ent_line.specs.Work.{IsWorked, line_work}
-use Rattle.ent_line.specs.declared.refusal.Refusal.{Refusal}
-use Rattle.ent_line.specs.declared.refusal.Refusal.TheVariants.{NotJson, TooLong}
+use Rattle.ent_wire.specs.declared.refusal.Refusal.{Refusal}
+use Rattle.ent_wire.specs.declared.refusal.Refusal.TheVariants.{NotJson, TooLong}
 use Rattle.ent_line.proofs.CommandLemmas.{IsQuiet, answered_quiet}
 
 -- ---- what a line is answered

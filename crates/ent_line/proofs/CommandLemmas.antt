@@ -10,20 +10,20 @@ use Rattle.ent_table.specs.Step as table
 use Rattle.ent_table.specs.declared.edit.Edit.{Edit}
 use Rattle.ent_table.specs.declared.edit.EditFault.{EditFault}
 use Rattle.ent_report.specs.World.{World}
-use Rattle.ent_line.specs.Asked as asked
-use Rattle.ent_line.specs.Asked.{Command, Form, IsOfCommands, begun, command_in, command_of, form_of, in_session}
+use Rattle.ent_command.specs.Asked as asked
+use Rattle.ent_command.specs.Asked.{Command, Form, IsOfCommands, begun, command_in, command_of, form_of, in_session}
 use Rattle.ent_line.specs.Beside.{Beside}
 use Rattle.ent_line.specs.Commands.{heard, made, requested, respond, run, settled, table_marked}
-use Rattle.ent_line.specs.Edits.{edit_of}
-use Rattle.ent_line.specs.Keys.{number_at}
-use Rattle.ent_line.specs.Lines.{line_limit}
+use Rattle.ent_command.specs.Edits.{edit_of}
+use Rattle.ent_command.specs.Keys.{number_at}
+use Rattle.ent_wire.specs.Lines.{line_limit}
 use Rattle.ent_line.specs.Replies as replies
 use Rattle.ent_line.specs.Replies.{Answer, accepted, answered, refused, text}
 use Rattle.ent_line.specs.Step.{Answers, data_of}
-use Rattle.ent_line.specs.declared.making.NoEdit.{NoEdit}
-use Rattle.ent_line.specs.declared.making.NoEdit.TheVariants as no_edit
-use Rattle.ent_line.specs.declared.refusal.Refusal.{Refusal}
-use Rattle.ent_line.specs.declared.refusal.Refusal.TheVariants.{Shape, TooLong, UnknownSession}
+use Rattle.ent_command.specs.declared.making.NoEdit.{NoEdit}
+use Rattle.ent_command.specs.declared.making.NoEdit.TheVariants as no_edit
+use Rattle.ent_wire.specs.declared.refusal.Refusal.{Refusal}
+use Rattle.ent_wire.specs.declared.refusal.Refusal.TheVariants.{Shape, TooLong, UnknownSession}
 
 -- ---- what asks for no command
 

@@ -23,7 +23,7 @@ use Rattle.ent_line.specs.Cells.{cell_data}
 use Rattle.ent_line.specs.Commands.{cell_explained, told_or}
 use Rattle.ent_line.specs.Explained.{causes_in, causes_of, explained_reply, facts_of}
 use Rattle.ent_line.specs.Replies.{answered, text}
-use Rattle.ent_line.specs.declared.refusal.Refusal.TheVariants.{NotThere}
+use Rattle.ent_wire.specs.declared.refusal.Refusal.TheVariants.{NotThere}
 use Rattle.ent_line.proofs.TextLemmas.{joined, written}
 
 -- the tokens up to the answer, and those behind it

@@ -6,14 +6,14 @@ use Rattle.ent_cells.specs.Count.{most}
 use Rattle.ent_report.specs.Desk.{Desked}
 use Rattle.ent_table.specs.State.{State}
 use Rattle.ent_line.specs.Commands.{heard, respond}
-use Rattle.ent_line.specs.History.{asked_by}
+use Rattle.ent_command.specs.Asking.{asked_by}
 use Rattle.ent_line.specs.Kept.{Remembers}
-use Rattle.ent_line.specs.Lines.{line_limit}
+use Rattle.ent_wire.specs.Lines.{line_limit}
 use Rattle.ent_line.specs.Replies.{Answer, refused}
 use Rattle.ent_line.specs.Step.{Counts, data_of}
 use Rattle.ent_line.specs.Work.{IsWorked, asked_work, line_work}
 use Rattle.ent_line.specs.World.{beside_of, counted_of}
-use Rattle.ent_line.specs.declared.refusal.Refusal.TheVariants.{Memory, TooLong}
+use Rattle.ent_wire.specs.declared.refusal.Refusal.TheVariants.{Memory, TooLong}
 use Rattle.ent_line.specs.proofs_only.Replying.{IsWorkedAtMost, Keeps}
 use Rattle.ent_line.proofs.CommandLemmas.{short_heard}
 use Rattle.ent_line.proofs.KnownLemmas.{known_said}

@@ -1,6 +1,5 @@
 -- Where lines lead: the state by their accepted edits, and the mark of a session by its history.
-use Rattle.std.proofs.Common.{◌≡◌, ◌≢◌, ◌<◌, ◌⊎◌, ℕ, List, [], ◌∷◌, length, nat_eq, Bool, true, false, get_or, Option, Some, None, Result, Ok, Err}
-use Rattle.std.proofs.Common.{refl, sym, ap, subst, ◌∙◌, inl, inr}
+use Rattle.std.proofs.Common.{◌≡◌, ◌≢◌, ◌<◌, ◌⊎◌, ℕ, List, [], ◌∷◌, length, nat_eq, Bool, true, false, get_or, Option, Some, None, Result, Ok, Err, refl, sym, ap, subst, ◌∙◌, inl, inr}
 use Rattle.std.specs.Prelude.{if◌then◌else◌, nat_lt, slice_set, option_and_then, option_map}
 use Rattle.std.specs.List.{cons_option, fold}
 use Rattle.std.specs.Result.{result_ok, result_unwrap_or}
@@ -14,24 +13,25 @@ use Rattle.ent_table.specs.declared.edit.Edit.{Edit}
 use Rattle.ent_table.specs.declared.edit.EditFault.{EditFault}
 use Rattle.ent_table.proofs.Doubles.{no_name_is_twice}
 use Rattle.ent_report.specs.World.{Mark, World, mark_in, mark_of}
-use Rattle.ent_line.specs.Asked as asked
-use Rattle.ent_line.specs.Asked.{Change, Command, command_in}
+use Rattle.ent_command.specs.Asked as asked
+use Rattle.ent_command.specs.Asked.{Change, Command, command_in}
 use Rattle.ent_line.specs.Beside.{Beside}
 use Rattle.ent_line.specs.Commands.{heard, made, requested, respond, run, settled, table_marked, told}
-use Rattle.ent_line.specs.Edits.{edit_of, unread}
+use Rattle.ent_command.specs.Edits.{edit_of, unread}
 use Rattle.ent_line.specs.Headline.{IsLed}
 use Rattle.ent_line.specs.History as session
-use Rattle.ent_line.specs.History.{Lead, Matter, Seen, accepted_edit, accepted_edits, asked_by, edit_in, edit_told, history, matter, matter_of, next, seen_by}
-use Rattle.ent_line.specs.Lines.{line_limit}
+use Rattle.ent_line.specs.History.{Lead, Matter, Seen, accepted_edit, accepted_edits, edit_in, edit_told, history, matter, matter_of, next, seen_by}
+use Rattle.ent_command.specs.Asking.{asked_by}
+use Rattle.ent_wire.specs.Lines.{line_limit}
 use Rattle.ent_line.specs.Refusals.{refusal_of}
 use Rattle.ent_line.specs.Replies as replies
 use Rattle.ent_line.specs.Replies.{Answer, accepted, answered, refused, text}
 use Rattle.ent_line.specs.Runs.{Run}
 use Rattle.ent_line.specs.Step.{Answers, data_of}
-use Rattle.ent_line.specs.declared.making.NoEdit.{NoEdit}
-use Rattle.ent_line.specs.declared.making.NoEdit.TheVariants as no_edit
-use Rattle.ent_line.specs.declared.refusal.Refusal.{Refusal}
-use Rattle.ent_line.specs.declared.refusal.Refusal.TheVariants.{Document, Memory, NotJson, TooLong}
+use Rattle.ent_command.specs.declared.making.NoEdit.{NoEdit}
+use Rattle.ent_command.specs.declared.making.NoEdit.TheVariants as no_edit
+use Rattle.ent_wire.specs.declared.refusal.Refusal.{Refusal}
+use Rattle.ent_wire.specs.declared.refusal.Refusal.TheVariants.{Document, Memory, NotJson, TooLong}
 use Rattle.ent_line.proofs.CommandLemmas.{IsQuiet, answered_quiet}
 
 -- ---- what a line leads to

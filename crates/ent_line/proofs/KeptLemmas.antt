@@ -5,14 +5,14 @@ use Rattle.ent_report.specs.Desk.{Desked}
 use Rattle.ent_table.specs.declared.edit.EditFault.{EditFault}
 use Rattle.ent_table.specs.declared.edit.EditFault.TheVariants as faults
 use Rattle.ent_line.specs.Answering.{reply_view}
-use Rattle.ent_line.specs.Asked.{Question}
+use Rattle.ent_command.specs.Asked.{Question}
 use Rattle.ent_line.specs.Beside.{Beside}
 use Rattle.ent_line.specs.Commands.{told}
 use Rattle.ent_line.specs.Kept.{Remembers}
 use Rattle.ent_line.specs.Refusals.{refusal_of}
 use Rattle.ent_line.specs.Replies as answers
 use Rattle.ent_line.specs.Replies.{Answer, answered}
-use Rattle.ent_line.specs.declared.refusal.Refusal.{Refusal}
+use Rattle.ent_wire.specs.declared.refusal.Refusal.{Refusal}
 use Rattle.ent_line.specs.declared.reply.Reply.{Reply}
 use Rattle.ent_line.specs.declared.reply.Reply.TheVariants as replies
 use Rattle.ent_line.specs.proofs_only.Refusing.{EditRefused}

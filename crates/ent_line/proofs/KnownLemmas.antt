@@ -16,23 +16,23 @@ use Rattle.ent_report.specs.Serials.{mark_serials}
 use Rattle.ent_report.specs.World.{World}
 use Rattle.ent_report.proofs.Marks.{oldest_reached}
 use Rattle.ent_report.proofs.Serials.{serial_counts}
-use Rattle.ent_line.specs.Asked as asked
-use Rattle.ent_line.specs.Asked.{Command, command_in}
+use Rattle.ent_command.specs.Asked as asked
+use Rattle.ent_command.specs.Asked.{Command, command_in}
 use Rattle.ent_line.specs.Beside.{Beside}
 use Rattle.ent_line.specs.Commands.{heard, made, requested, respond, run, settled, table_marked, told}
-use Rattle.ent_line.specs.Edits.{edit_of}
+use Rattle.ent_command.specs.Edits.{edit_of}
 use Rattle.ent_line.specs.Kept.{Remembers}
 use Rattle.ent_line.specs.Fresh.{IsLeft, KnownTablesWereFresh}
 use Rattle.ent_line.specs.Known.{known_after, oldest_of}
-use Rattle.ent_line.specs.Lines.{line_limit}
+use Rattle.ent_wire.specs.Lines.{line_limit}
 use Rattle.ent_line.specs.Replies as replies
 use Rattle.ent_line.specs.Replies.{Answer, answered, refused}
 use Rattle.ent_line.specs.Step.{AnswersAfter, Counted, at_start, data_of}
 use Rattle.ent_line.specs.World.{beside_of, counted_of}
-use Rattle.ent_line.specs.declared.making.NoEdit.{NoEdit}
-use Rattle.ent_line.specs.declared.making.NoEdit.TheVariants as no_edit
-use Rattle.ent_line.specs.declared.refusal.Refusal.{Refusal}
-use Rattle.ent_line.specs.declared.refusal.Refusal.TheVariants.{TooLong}
+use Rattle.ent_command.specs.declared.making.NoEdit.{NoEdit}
+use Rattle.ent_command.specs.declared.making.NoEdit.TheVariants as no_edit
+use Rattle.ent_wire.specs.declared.refusal.Refusal.{Refusal}
+use Rattle.ent_wire.specs.declared.refusal.Refusal.TheVariants.{TooLong}
 use Rattle.ent_line.proofs.CommandLemmas.{IsQuiet, answered_quiet}
 
 -- ---- a history that is known from one serial to another

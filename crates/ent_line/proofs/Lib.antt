@@ -1,7 +1,5 @@
 mod AskingLemmas
-pub mod ChangeLemmas
 mod CommandLemmas
-mod CommandWords
 mod ExplainedLemmas
 mod FailedLemmas
 pub mod HandleLemmas
@@ -13,11 +11,9 @@ pub mod LineLemmas
 mod ListedLemmas
 pub mod PieceLemmas
 mod PrintedLemmas
-pub mod ReadLemmas
-pub mod ServeLemmas
 mod ReplyLemmas
 pub mod ReportLemmas
-pub mod SelectingLemmas
+pub mod ServeLemmas
 mod SessionLemmas
 pub mod StandingLemmas
 mod TextLemmas

@@ -3,7 +3,7 @@ use Rattle.std.proofs.Common.{◌≡◌, ℕ, List, [], ◌∷◌, ◌++◌, All
 use Rattle.std.proofs.lemmas.List.Elements.{All-head, All-tail}
 use Rattle.std.specs.List.{flat_map}
 use Rattle.std.proofs.lemmas.List.Concat.{flat_map-cons}
-use Rattle.ent_line.specs.Lines.{NoNewline, ended, Splits}
+use Rattle.ent_wire.specs.Lines.{NoNewline, ended, Splits}
 
 abbrev Same : List ℕ → List ℕ → List ℕ → List ℕ → Type 0
 Same a b x y = (a ≡ b) × (x ≡ y)

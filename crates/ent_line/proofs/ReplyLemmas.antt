@@ -8,20 +8,20 @@ use Rattle.ent_table.specs.Step as table
 use Rattle.ent_table.specs.declared.edit.Edit.{Edit}
 use Rattle.ent_table.specs.declared.edit.EditFault.{EditFault}
 use Rattle.ent_report.specs.World.{World}
-use Rattle.ent_line.specs.Asked as asked
-use Rattle.ent_line.specs.Asked.{Command, command_in}
+use Rattle.ent_command.specs.Asked as asked
+use Rattle.ent_command.specs.Asked.{Command, command_in}
 use Rattle.ent_line.specs.Beside.{Beside}
 use Rattle.ent_line.specs.Commands.{heard, made, requested, respond, run, settled, table_marked, told}
-use Rattle.ent_line.specs.Edits.{edit_of}
-use Rattle.ent_line.specs.Lines.{IsOneLine, line_limit}
-use Rattle.ent_line.specs.Refusals.{code_of, sub_of}
+use Rattle.ent_command.specs.Edits.{edit_of}
+use Rattle.ent_wire.specs.Lines.{IsOneLine, line_limit}
+use Rattle.ent_wire.specs.Refusals.{code_of, sub_of}
 use Rattle.ent_line.specs.Replies as replies
 use Rattle.ent_line.specs.Replies.{Answer, accepted, answered, line_of, refusal_line, refused, text}
 use Rattle.ent_line.specs.Step.{Answers, data_of}
-use Rattle.ent_line.specs.declared.making.NoEdit.{NoEdit}
-use Rattle.ent_line.specs.declared.making.NoEdit.TheVariants as no_edit
-use Rattle.ent_line.specs.declared.refusal.Refusal.{Refusal}
-use Rattle.ent_line.specs.declared.refusal.Refusal.TheVariants.{TooLong}
+use Rattle.ent_command.specs.declared.making.NoEdit.{NoEdit}
+use Rattle.ent_command.specs.declared.making.NoEdit.TheVariants as no_edit
+use Rattle.ent_wire.specs.declared.refusal.Refusal.{Refusal}
+use Rattle.ent_wire.specs.declared.refusal.Refusal.TheVariants.{TooLong}
 use Rattle.ent_line.proofs.PrintedLemmas.{ArePrinted, IsPrintedLine, behind, decimal_printed, one_line, text_printed, word_printed}
 
 -- the text of an answer has no control character

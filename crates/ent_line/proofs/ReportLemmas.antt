@@ -8,7 +8,7 @@ use Rattle.ent_report.specs.declared.fault.NoticeFault.TheVariants.{NoMark}
 use Rattle.ent_line.specs.Commands.{changes_or_refusal, notices_or_refusal}
 use Rattle.ent_line.specs.Replies.{answered, refused, text}
 use Rattle.ent_line.specs.Reports.{changes_reply, notices_reply}
-use Rattle.ent_line.specs.declared.refusal.Refusal.TheVariants as refusals
+use Rattle.ent_wire.specs.declared.refusal.Refusal.TheVariants as refusals
 use Rattle.ent_table.specs.declared.since.Change.{Change}
 use Rattle.ent_combine.specs.declared.outcome.Outcome.{Outcome}
 

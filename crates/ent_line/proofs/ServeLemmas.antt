@@ -7,10 +7,10 @@ use Rattle.std.specs.Prelude.{⊤}
 use Rattle.std.specs.List.{flat_map}
 use Rattle.std.specs.Io.KnownBytes.{Consumes, Appends, IsAtEnd}
 use Rattle.std.proofs.KnownBytes.{Consumes-nil, Consumes-trans, Appends-nil, Appends-trans}
-use Rattle.ent_line.specs.declared.fault.ServeFault.{ServeFault}
+use Rattle.ent_wire.specs.declared.fault.ServeFault.{ServeFault}
 use Rattle.ent_line.specs.declared.input.InputPiece.{InputPiece}
 use Rattle.ent_line.specs.declared.input.InputPiece.TheVariants.{End, Part, Line}
-use Rattle.ent_line.specs.Lines.{NoNewline, ended, line_limit, Splits}
+use Rattle.ent_wire.specs.Lines.{NoNewline, ended, line_limit, Splits}
 use Rattle.ent_line.specs.proofs_only.Pieces.{AnswersLine, TakesPiece, kept_of}
 use Rattle.ent_line.specs.Replies.{Answer, line_of}
 use Rattle.ent_line.specs.Answering.{LongLinesAlike}

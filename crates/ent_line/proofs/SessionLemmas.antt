@@ -5,15 +5,16 @@ use Rattle.std.specs.List.{fold}
 use Rattle.std.specs.Result.{result_ok}
 use Rattle.serde_json.specs.Data.{Data}
 use Rattle.ent_report.specs.World.{Mark, World}
-use Rattle.ent_line.specs.Asked.{Command, command_in}
+use Rattle.ent_command.specs.Asked.{Command, command_in}
 use Rattle.ent_line.specs.Beside.{Beside}
 use Rattle.ent_line.specs.Commands.{changes_told, heard, notices_or_refusal, requested, run, told}
-use Rattle.ent_line.specs.History.{asked_by, history, next, seen_by}
+use Rattle.ent_command.specs.Asking.{asked_by}
+use Rattle.ent_line.specs.History.{history, next, seen_by}
 use Rattle.ent_line.specs.Replies.{Answer, answered, refused}
 use Rattle.ent_line.specs.Sessions.{AsksNotices, SessionsAreSeparate}
 use Rattle.ent_line.specs.Step.{Answers, data_of}
-use Rattle.ent_line.specs.declared.refusal.Refusal.{Refusal}
-use Rattle.ent_line.specs.declared.refusal.Refusal.TheVariants.{Memory}
+use Rattle.ent_wire.specs.declared.refusal.Refusal.{Refusal}
+use Rattle.ent_wire.specs.declared.refusal.Refusal.TheVariants.{Memory}
 use Rattle.ent_line.proofs.CommandLemmas.{short_heard}
 use Rattle.ent_line.proofs.HistoryLemmas.{run_seen}
 

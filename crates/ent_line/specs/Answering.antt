@@ -1,6 +1,6 @@
 -- What is said of whatever answers lines: its replies as answers, and what it owes to lines that are too long.
 use Rattle.std.specs.Prelude.{ℕ, ◌<◌, List, length, string_bytes}
-use Rattle.ent_line.specs.Lines.{line_limit}
+use Rattle.ent_wire.specs.Lines.{line_limit}
 use Rattle.ent_line.specs.Replies.{Answer, accepted, marked, refused, text}
 use Rattle.ent_line.specs.Runs.{Handling}
 use Rattle.ent_line.specs.declared.reply.Reply.{Reply}

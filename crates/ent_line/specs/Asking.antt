@@ -1,23 +1,10 @@
 -- Lines that only ask: they leave the world, and but for `work` no reply rests on how many evaluations there were.
-use Rattle.std.specs.Prelude.{◌≡◌, ℕ, ◌≤◌, Bool, true, false, List, All}
-use Rattle.std.specs.Option.{option_map_or}
+use Rattle.std.specs.Prelude.{◌≡◌, ℕ, ◌≤◌, true, List, All}
 pub use Rattle.ent_cells.specs.Count.{most}
-use Rattle.ent_line.specs.Asked as asked
-use Rattle.ent_line.specs.Asked.{Command}
-use Rattle.ent_line.specs.History.{asked_by}
 use Rattle.ent_line.specs.Replies.{Answer}
 use Rattle.ent_line.specs.Runs.{Run}
 use Rattle.ent_line.specs.Step.{Counted, Counts}
-
--- a command only asks: it is a question, and another one than how many evaluations there were
-abbrev pub is_asking : Command → Bool
-is_asking (asked.question asked.work) = false
-is_asking (asked.question other) = true
-is_asking other = false
-
--- a line only asks, or it asks for no command
-abbrev pub only_asks : List ℕ → Bool
-only_asks line = option_map_or (λ x. is_asking x.1) (asked_by line) true
+use Rattle.ent_command.specs.Asking.{only_asks}
 
 -- the same after another number of evaluations
 abbrev pub recounted : ℕ → Counted → Counted

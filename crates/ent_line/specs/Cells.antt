@@ -3,25 +3,12 @@ use Rattle.std.specs.Prelude.{ℕ, List, map, codes}
 use Rattle.serde_json.specs.Data as json
 use Rattle.serde_json.specs.Data.{Data}
 use Rattle.serde_json.specs.View.{items_of}
-use Rattle.ent_combine.specs.declared.outcome.IndKind.TheVariants as kind
-use Rattle.ent_combine.specs.declared.outcome.Outcome.{Outcome}
-use Rattle.ent_combine.specs.declared.outcome.Outcome.TheVariants as outcome
 use Rattle.ent_request.specs.declared.answer.Answer.{Answer}
 use Rattle.ent_request.specs.declared.answer.WhyEntry.{WhyEntry}
 use Rattle.ent_telling.specs.Paths.{path_data, rule_data, status_text}
 use Rattle.ent_profile.specs.Response.{given_written}
 use Rattle.ent_table.specs.Names.{Triple}
-
--- ---- words
-
--- the word of a decision; what an Indeterminate could have been stands in braces
-abbrev pub decision_text : Outcome → List ℕ
-decision_text outcome.Permit = codes "Permit"
-decision_text outcome.Deny = codes "Deny"
-decision_text outcome.NotApplicable = codes "NotApplicable"
-decision_text (outcome.Ind kind.P) = codes "Indeterminate{P}"
-decision_text (outcome.Ind kind.D) = codes "Indeterminate{D}"
-decision_text (outcome.Ind kind.DP) = codes "Indeterminate{DP}"
+use Rattle.ent_command.specs.Wanted.{decision_text}
 
 -- ---- values
 

@@ -1,7 +1,6 @@
 -- What each line is answered: each change, question and mark. From below: `respond` is what a line is answered, `run` a
 -- command, `told` a question. A refused line leaves the world, and so does every question.
-use Rattle.std.specs.Prelude.{ℕ, Bool, List, drop, filter, length, nat_lt, take, if◌then◌else◌, Option, Some, None, option_and_then}
-use Rattle.std.specs.Prelude.{Result, Ok, Err}
+use Rattle.std.specs.Prelude.{ℕ, Bool, List, drop, filter, length, nat_lt, take, if◌then◌else◌, Option, Some, None, option_and_then, Result, Ok, Err}
 use Rattle.std.specs.Result.{result_ok}
 use Rattle.serde_json.specs.Data.{Data}
 use Rattle.ent_json.specs.Line.{data_of}
@@ -23,27 +22,25 @@ use Rattle.ent_telling.specs.Facts.{facts}
 use Rattle.ent_report.specs.Notices.{notices}
 use Rattle.ent_report.specs.Reports as report
 use Rattle.ent_report.specs.World.{World, marked, marked_table}
-use Rattle.ent_line.specs.Asked as asked
-use Rattle.ent_line.specs.Asked.{Command, Question, command_in}
+use Rattle.ent_command.specs.Asked as asked
+use Rattle.ent_command.specs.Asked.{Command, Question, command_in}
 use Rattle.ent_line.specs.Beside.{Beside}
 use Rattle.ent_line.specs.Cells.{cell_data, cells_reply, cell_reply, table_reply}
 use Rattle.ent_line.specs.Dumping.{can_tell, format_reply, is_version}
-use Rattle.ent_line.specs.Edits.{edit_of, unread}
+use Rattle.ent_command.specs.Edits.{edit_of, unread}
 use Rattle.ent_line.specs.Explained.{answer_data, causes_in, causes_of, explained_reply, facts_of}
-use Rattle.ent_line.specs.Lines.{line_limit}
+use Rattle.ent_wire.specs.Lines.{line_limit}
 use Rattle.ent_line.specs.Listed.{limits_reply, names_reply}
 use Rattle.ent_line.specs.Refusals.{refusal_of}
 use Rattle.ent_line.specs.Replies as replies
 use Rattle.ent_line.specs.Replies.{Answer, accepted, answered, refused}
-use Rattle.ent_line.specs.Reports.{by_rule_reply, can_reply, changes_reply, counts_reply, faults_reply}
-use Rattle.ent_line.specs.Reports.{notices_reply, who_reply, work_reply}
+use Rattle.ent_line.specs.Reports.{by_rule_reply, can_reply, changes_reply, counts_reply, faults_reply, notices_reply, who_reply, work_reply}
 use Rattle.ent_line.specs.Standing.{state_reply}
-use Rattle.ent_line.specs.Wanted.{Wanted, are_listed, is_asked}
-use Rattle.ent_line.specs.declared.making.NoEdit.{NoEdit}
-use Rattle.ent_line.specs.declared.making.NoEdit.TheVariants as no_edit
-use Rattle.ent_line.specs.declared.refusal.Refusal.{Refusal}
-use Rattle.ent_line.specs.declared.refusal.Refusal.TheVariants.{BadValue, Document, Memory, NoMark, NotJson}
-use Rattle.ent_line.specs.declared.refusal.Refusal.TheVariants.{NotThere, Request as NoRequest, Reserved, TooLong}
+use Rattle.ent_command.specs.Wanted.{Wanted, are_listed, is_asked}
+use Rattle.ent_command.specs.declared.making.NoEdit.{NoEdit}
+use Rattle.ent_command.specs.declared.making.NoEdit.TheVariants as no_edit
+use Rattle.ent_wire.specs.declared.refusal.Refusal.{Refusal}
+use Rattle.ent_wire.specs.declared.refusal.Refusal.TheVariants.{BadValue, Document, Memory, NoMark, NotJson, NotThere, Request as NoRequest, Reserved, TooLong}
 
 -- ---- changes
 

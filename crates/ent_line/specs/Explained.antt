@@ -13,7 +13,8 @@ use Rattle.ent_telling.specs.Facts.{facts}
 use Rattle.ent_telling.specs.Paths.{status_text}
 use Rattle.ent_profile.specs.Response.{given_written}
 use Rattle.ent_table.specs.Names.{Triple}
-use Rattle.ent_line.specs.Cells.{decision_text, entry_data, list_data, reply_data}
+use Rattle.ent_command.specs.Wanted.{decision_text}
+use Rattle.ent_line.specs.Cells.{entry_data, list_data, reply_data}
 use Rattle.ent_line.specs.Reports.{count_data}
 
 -- the answer to a request as a cell has it, without names

@@ -18,17 +18,17 @@ use Rattle.serde_json.specs.Data.{Data}
 use Rattle.ent_table.specs.Doubles.{HasNoDoubles}
 use Rattle.ent_report.specs.Differing.{NoticesAreTheDifference}
 use Rattle.ent_report.specs.World.{World}
-use Rattle.ent_line.specs.Asked.{IsOfCommands, command_in}
+use Rattle.ent_command.specs.Asked.{IsOfCommands, command_in}
 use Rattle.ent_line.specs.Fresh.{KnownTablesWereFresh}
 use Rattle.ent_line.specs.History.{Lead, accepted_edits, history, next, seen_by}
-use Rattle.ent_line.specs.Lines.{IsOneLine}
+use Rattle.ent_wire.specs.Lines.{IsOneLine}
 use Rattle.ent_line.specs.Replies.{Answer, line_of, refused}
 use Rattle.ent_line.specs.Runs.{Run}
 use Rattle.ent_line.specs.Serving.{Ends, ServesUntil}
 use Rattle.ent_line.specs.Sessions.{SessionsAreSeparate}
 use Rattle.ent_line.specs.Step.{Answers, Counted, Counts, data_of}
-use Rattle.ent_line.specs.declared.fault.ServeFault.{ServeFault}
-use Rattle.ent_line.specs.declared.refusal.Refusal.{Refusal}
+use Rattle.ent_wire.specs.declared.fault.ServeFault.{ServeFault}
+use Rattle.ent_wire.specs.declared.refusal.Refusal.{Refusal}
 
 -- what holds of the answers to a line in a world: `respond` (`Commands`) gives one by what stands beside it, and want
 -- of memory, which changes nothing and never stands in place of refusal 1, is the only other (`Step`)

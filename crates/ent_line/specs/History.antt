@@ -2,18 +2,14 @@
 -- among them.
 use Rattle.std.specs.Prelude.{◌≡◌, ℕ, List, [], ◌∷◌, nat_eq, if◌then◌else◌, Option, Some, None, option_and_then, option_map, filter_map, zip, Ok}
 use Rattle.std.specs.Result.{result_ok, result_unwrap_or}
-use Rattle.ent_json.specs.Line.{data_of}
 use Rattle.ent_table.specs.State.{State}
 use Rattle.ent_table.specs.Step as table
 use Rattle.ent_table.specs.declared.edit.Edit.{Edit}
 use Rattle.ent_report.specs.World.{Mark, World, mark_in, mark_of}
-use Rattle.ent_line.specs.Asked.{Command, change, command_in}
-use Rattle.ent_line.specs.Edits.{edit_of}
+use Rattle.ent_command.specs.Asked.{Command, change}
+use Rattle.ent_command.specs.Edits.{edit_of}
 use Rattle.ent_line.specs.Replies.{Answer, accepted, marked}
-
--- the session and the command of a line that has them
-abbrev pub asked_by : List ℕ → Option (ℕ × Command)
-asked_by line = option_and_then (λ d. result_ok (command_in d)) (data_of line)
+use Rattle.ent_command.specs.Asking.{asked_by}
 
 -- ---- the accepted edits
 

@@ -2,8 +2,8 @@
 use Rattle.std.specs.Prelude.{ℕ, List, ◌++◌, Option, Some, None, Result, Ok, Err, codes, decimal}
 use Rattle.serde_json.specs.Data.{Data}
 use Rattle.serde_json.specs.Written.{compact_text}
-use Rattle.ent_line.specs.Refusals.{code_of, sub_of}
-use Rattle.ent_line.specs.declared.refusal.Refusal.{Refusal}
+use Rattle.ent_wire.specs.Refusals.{code_of, sub_of}
+use Rattle.ent_wire.specs.declared.refusal.Refusal.{Refusal}
 
 -- what a line is answered by: a reply without where its text lies in memory
 pub data Answer : Type 0 where

@@ -5,7 +5,8 @@ use Rattle.serde_json.specs.Data.{Data}
 use Rattle.ent_combine.specs.declared.outcome.Outcome.{Outcome}
 use Rattle.ent_request.specs.declared.answer.Answer.{Answer}
 use Rattle.ent_table.specs.Names.{Triple}
-use Rattle.ent_line.specs.Cells.{decision_text, list_data, reply_data}
+use Rattle.ent_command.specs.Wanted.{decision_text}
+use Rattle.ent_line.specs.Cells.{list_data, reply_data}
 use Rattle.ent_report.specs.declared.counts.Counts.{Counts}
 use Rattle.ent_table.specs.declared.since.Change.{Change}
 

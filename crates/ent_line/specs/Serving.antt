@@ -2,9 +2,9 @@
 use Rattle.std.specs.Prelude.{◌≡◌, ◌⊎◌, ℕ, List, [], ◌∷◌, ◌++◌, length, Option, OnSome, Result, Ok, Err}
 use Rattle.std.specs.List.{flat_map}
 use Rattle.std.specs.Io.KnownBytes.{Consumes, Appends, IsAtEnd}
-use Rattle.ent_line.specs.declared.fault.ServeFault.{ServeFault}
-use Rattle.ent_line.specs.declared.fault.ServeFault.TheVariants.{Read, Write, Memory}
-use Rattle.ent_line.specs.Lines.{Splits}
+use Rattle.ent_wire.specs.declared.fault.ServeFault.{ServeFault}
+use Rattle.ent_wire.specs.declared.fault.ServeFault.TheVariants.{Read, Write, Memory}
+use Rattle.ent_wire.specs.Lines.{Splits}
 use Rattle.ent_line.specs.Replies.{Answer, line_of}
 use Rattle.ent_line.specs.Runs.{Handling, Run}
 

@@ -1,14 +1,15 @@
 -- What a session's notices rest on: the accepted edits, whoever made them, and the session's own marks.
 use Rattle.std.specs.Prelude.{◌≡◌, ◌⊎◌, ◌<◌, ◌≤◌, ℕ, List, length, Some}
 use Rattle.ent_report.specs.World.{World, mark_of}
-use Rattle.ent_line.specs.Asked as asked
-use Rattle.ent_line.specs.History.{asked_by, history}
-use Rattle.ent_line.specs.Lines.{line_limit}
+use Rattle.ent_command.specs.Asked as asked
+use Rattle.ent_command.specs.Asking.{asked_by}
+use Rattle.ent_line.specs.History.{history}
+use Rattle.ent_wire.specs.Lines.{line_limit}
 use Rattle.ent_line.specs.Replies.{Answer, refused}
 use Rattle.ent_line.specs.Runs.{Run}
 use Rattle.ent_line.specs.Commands.{changes_told}
 use Rattle.ent_line.specs.Step.{Answers}
-use Rattle.ent_line.specs.declared.refusal.Refusal.TheVariants.{Memory}
+use Rattle.ent_wire.specs.declared.refusal.Refusal.TheVariants.{Memory}
 
 -- two worlds have the same state and the same mark of a session, and each has a place for it
 pub record AreAlikeTo (session : ℕ) (w v : World) : Type 0 where

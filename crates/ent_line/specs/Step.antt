@@ -5,10 +5,10 @@ use Rattle.ent_report.specs.World.{World}
 use Rattle.ent_line.specs.Beside.{Beside}
 use Rattle.ent_line.specs.Commands.{respond}
 use Rattle.ent_line.specs.Known.{IsKnown, present_alone}
-use Rattle.ent_line.specs.Lines.{line_limit}
+use Rattle.ent_wire.specs.Lines.{line_limit}
 use Rattle.ent_line.specs.Replies.{Answer, refused}
 use Rattle.ent_line.specs.Work.{IsWorked, line_work}
-use Rattle.ent_line.specs.declared.refusal.Refusal.TheVariants.{Memory}
+use Rattle.ent_wire.specs.declared.refusal.Refusal.TheVariants.{Memory}
 
 -- what `respond` gives, or want of memory, which changes nothing and is never told of a line that is too long
 abbrev pub AnswersAfter : Beside → World → List ℕ → Answer → World → Type 0

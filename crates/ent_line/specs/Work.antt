@@ -7,14 +7,14 @@ use Rattle.ent_table.specs.State.{State, answer_at}
 use Rattle.ent_table.specs.Step as table
 use Rattle.ent_table.specs.declared.edit.Edit.{Edit}
 use Rattle.ent_table.specs.declared.edit.EditFault.{EditFault}
-use Rattle.ent_line.specs.Asked as asked
-use Rattle.ent_line.specs.Asked.{Command}
-use Rattle.ent_line.specs.Edits.{edit_of}
-use Rattle.ent_line.specs.History.{asked_by}
-use Rattle.ent_line.specs.Lines.{line_limit}
+use Rattle.ent_command.specs.Asked as asked
+use Rattle.ent_command.specs.Asked.{Command}
+use Rattle.ent_command.specs.Edits.{edit_of}
+use Rattle.ent_command.specs.Asking.{asked_by}
+use Rattle.ent_wire.specs.Lines.{line_limit}
 use Rattle.ent_line.specs.Replies as replies
 use Rattle.ent_line.specs.Replies.{Answer}
-use Rattle.ent_line.specs.declared.making.NoEdit.{NoEdit}
+use Rattle.ent_command.specs.declared.making.NoEdit.{NoEdit}
 
 -- ---- how many evaluations are asked for, or that the count is to stay
 

@@ -1,7 +1,5 @@
-pub mod CommandView
 pub mod Failing
 pub mod LongLines
-pub mod Making
 pub mod Pieces
 pub mod Refusing
 pub mod Replying

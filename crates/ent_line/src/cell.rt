@@ -1,37 +1,24 @@
 //! The JSON of cells.
 
-ghost use Rattle.std.specs.Prelude.{◌≡◌, [], ◌∷◌, ◌++◌, codes};
+ghost use Rattle.std.specs.Prelude.{[], ◌∷◌, ◌++◌, codes};
 ghost use Rattle.json.specs.Token as token;
 ghost use Rattle.ent_json.specs.Text.{tokens_of};
 ghost use Rattle.ent_profile.specs.Response.{given_written, response};
 ghost use Rattle.ent_table.specs.Left.{cells_left};
 ghost use Rattle.ent_table.specs.Names.{triple_of};
 ghost use Rattle.ent_telling.specs.Paths.{status_text};
-ghost use Rattle.ent_line.specs.Cells.{cell_data, entry_data, list_data, reply_data};
-ghost use Rattle.ent_line.specs.Cells.{cell_reply, decision_text, table_reply};
+ghost use Rattle.ent_line.specs.Cells.{cell_data, entry_data, list_data, reply_data, cell_reply, table_reply};
+ghost use Rattle.ent_command.specs.Wanted.{decision_text};
 ghost use Rattle.ent_line.specs.proofs_only.Writing.{Adds, Spells, Writes, WritesEach};
 
-use ent_combine::{IndKind, Outcome};
+use ent_combine::Outcome;
+use ent_command::decision_text;
 use ent_eval::{Answer, Evaluates, Given, Request, Status, WhyEntry};
 use ent_json::JsonText;
 use ent_profile::{write_given_text, write_response_text};
 use ent_table::Cells;
 use ent_telling::{status_text, write_path, write_rule};
 use std::alloc::{AllocError, Global};
-
-/// The word of a decision.
-pub(crate) fn decision_text(decision: Outcome) -> &'static str
-    ensures { result.now ≡ decision_text decision }
-{
-    match decision {
-        Outcome::Permit => "Permit",
-        Outcome::Deny => "Deny",
-        Outcome::NotApplicable => "NotApplicable",
-        Outcome::Ind(IndKind::P) => "Indeterminate{P}",
-        Outcome::Ind(IndKind::D) => "Indeterminate{D}",
-        Outcome::Ind(IndKind::DP) => "Indeterminate{DP}",
-    }
-}
 
 /// Writes a rule with the path to it.
 fn write_entry(out: &mut JsonText, entry: &WhyEntry) -> Result<(), AllocError>

@@ -6,11 +6,11 @@ ghost use Rattle.ent_line.specs.Dumping.{can_tell, format_reply, is_moment, is_v
 ghost use Rattle.ent_line.specs.proofs_only.Replying.{Tells, TellsThat};
 ghost use Rattle.ent_line.specs.proofs_only.Writing.{Spells};
 
-use crate::refusal::Refusal;
 use crate::reply::Reply;
 use crate::service::Service;
 use ent_dump::dump_text;
 use ent_eval::{Environment, Evaluates};
+use ent_wire::Refusal;
 use itoa::Buffer;
 use std::alloc::{AllocError, Global};
 

@@ -7,7 +7,7 @@ ghost use Rattle.ent_telling.specs.Causes.{causes_data, untold};
 ghost use Rattle.ent_telling.specs.Facts.{facts_data};
 ghost use Rattle.ent_json.specs.Text.{tokens_of};
 ghost use Rattle.ent_table.specs.Names.{triple_of};
-ghost use Rattle.ent_line.specs.Asked as asked;
+ghost use Rattle.ent_command.specs.Asked as asked;
 ghost use Rattle.ent_line.specs.Cells.{cell_data};
 ghost use Rattle.ent_line.specs.Commands.{cell_explained, request_explained};
 ghost use Rattle.ent_line.specs.Explained.{answer_data, explained_reply};
@@ -15,7 +15,6 @@ ghost use Rattle.ent_line.specs.proofs_only.Replying.{Answers, Keeps, WorksFor};
 ghost use Rattle.ent_line.specs.proofs_only.Writing.{Adds, Spells, Writes};
 
 use crate::cell::{write_cell, write_decided, write_reason};
-use crate::refusal::Refusal;
 use crate::reply::Reply;
 use crate::service::Service;
 use ent_eval::{Answer, Cause, Evaluates, Explained, Pdp, Reads, Request};
@@ -23,6 +22,7 @@ use ent_finder::{Attributes, Policies};
 use ent_json::{JsonText, JsonTree, write_count};
 use ent_profile::{RequestFault, read_request, write_given_text};
 use ent_telling::{untold, write_causes, write_facts};
+use ent_wire::Refusal;
 use std::alloc::{AllocError, Global};
 
 /// Writes the answer to a request as a cell has it, without names.

@@ -4,11 +4,11 @@ ghost use Rattle.std.specs.Option.{option_copied};
 ghost use Rattle.ent_line.specs.Commands.{attributes_told, documents_told};
 ghost use Rattle.ent_line.specs.proofs_only.Replying.{Tells};
 
-use crate::refusal::Refusal;
 use crate::reply::Reply;
 use crate::service::Service;
 use ent_eval::Evaluates;
 use ent_telling::{attributes_text, documents_text};
+use ent_wire::Refusal;
 use std::alloc::AllocError;
 
 impl<E: Evaluates> Service<E> {

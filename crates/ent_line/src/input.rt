@@ -1,15 +1,12 @@
 //! Lines out of a reader, a piece at a time.
 
-ghost use Rattle.std.specs.Prelude.{◌≡◌, ◌+◌, ◌<◌, ◌≤◌, length, take, slice_index, vec_len, vec_capacity, Result};
-ghost use Rattle.ent_line.specs.Lines.{HasOneSplit, NoNewline, line_limit};
+ghost use Rattle.std.specs.Prelude.{◌≡◌, ◌+◌, ◌<◌, ◌≤◌, length, take, slice_index, vec_len, vec_capacity};
+ghost use Rattle.ent_wire.specs.Lines.{HasOneSplit, NoNewline, line_limit};
 ghost use Rattle.ent_line.specs.proofs_only.Pieces.{TakesPiece};
 
-use crate::fault::ServeFault;
+use ent_wire::{LINE_LIMIT, ServeFault};
 use memchr::memchr;
 use std::io::{BufRead, ErrorKind};
-
-/// The most bytes that a line may have.
-pub const LINE_LIMIT: usize = 1_048_576;
 
 /// What one look at the reader's buffer gave.
 #[derive(Clone, Copy, PartialEq, Eq)]

@@ -2,24 +2,15 @@
 #![tactic(auto)]
 
 mod answering;
-mod asking;
 mod cell;
-mod changes;
-mod command;
 mod dumping;
 mod explaining;
-mod fault;
 mod faulting;
 mod holding;
 mod input;
-mod keys;
 mod law;
 mod listed;
-mod making;
-mod output;
-mod questions;
-mod reading;
-mod refusal;
+mod refusing;
 mod reply;
 mod reporting;
 mod reports;
@@ -27,17 +18,13 @@ mod selecting;
 mod service;
 mod serving;
 mod standing;
-mod wanted;
 
 pub use answering::Answering;
-pub use asking::{command_words, only_asks};
+pub use ent_command::{NoEdit, command_words, only_asks};
 pub use ent_dump::{LinesFault, dump_lines};
-pub use fault::ServeFault;
-pub use input::{LINE_LIMIT, one_split};
+pub use ent_wire::{LINE_LIMIT, Refusal, ServeFault, send_all};
+pub use input::one_split;
 pub use law::{questions_leave_all, replies_are_fresh, sessions_are_separate};
-pub use making::NoEdit;
-pub use output::send_all;
-pub use refusal::Refusal;
 pub use reply::Reply;
 pub use service::Service;
 pub use serving::{serve, serve_review, serve_within};

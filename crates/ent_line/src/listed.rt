@@ -10,7 +10,6 @@ ghost use Rattle.ent_line.specs.Listed.{limit_data, limits_data, limits_reply, n
 ghost use Rattle.ent_line.specs.proofs_only.Replying.{Tells};
 ghost use Rattle.ent_line.specs.proofs_only.Writing.{Adds, Spells, Writes};
 
-use crate::refusal::Refusal;
 use crate::reply::Reply;
 use crate::reports::{begin_list, write_people};
 use crate::service::Service;
@@ -19,6 +18,7 @@ use ent_eval::Evaluates;
 use ent_json::{JsonText, write_count};
 use ent_table::{List, Review};
 use ent_values::Text;
+use ent_wire::Refusal;
 use std::alloc::{AllocError, Global};
 
 /// Writes a limit at a key, and how much of it is taken.

@@ -3,12 +3,10 @@
 ghost use Rattle.std.specs.Prelude.{◌≡◌, Result, Some, None};
 ghost use Rattle.ent_line.specs.Answering.{reply_view};
 ghost use Rattle.ent_line.specs.Replies.{accepted, marked, refusal_line, line_of};
-ghost use Rattle.ent_line.specs.proofs_only.Writing.{SendsTo};
+ghost use Rattle.ent_wire.specs.Pieces.{SendsTo};
 
-use crate::fault::ServeFault;
-use crate::output::send_all;
-use crate::refusal::Refusal;
 use ent_table::Accepted;
+use ent_wire::{Refusal, ServeFault, send_all};
 use itoa::Buffer;
 use std::io::Write;
 

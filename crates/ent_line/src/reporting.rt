@@ -3,11 +3,10 @@
 ghost use Rattle.std.specs.Prelude.{◌≡◌, ◌<◌};
 ghost use Rattle.std.specs.Option.{option_copied};
 ghost use Rattle.ent_line.specs.proofs_only.Replying.{Answers, Keeps, RemembersBy, Replies, Tells, TellsThat};
-ghost use Rattle.ent_line.specs.Commands.{by_rule_told, can_told, changes_told, counts_told};
-ghost use Rattle.ent_line.specs.Commands.{since_told, table_marked, who_told, work_told};
+ghost use Rattle.ent_line.specs.Commands.{by_rule_told, can_told, changes_told, counts_told, since_told};
+ghost use Rattle.ent_line.specs.Commands.{table_marked, who_told, work_told};
 ghost use Rattle.ent_report.specs.Known.{known_of};
 
-use crate::refusal::Refusal;
 use crate::reply::Reply;
 use crate::reports::{
     by_rule_text, can_text, changes_text, counts_text, notices_text, who_text, work_text,
@@ -15,6 +14,7 @@ use crate::reports::{
 use crate::service::Service;
 use ent_eval::Evaluates;
 use ent_report::{NoticeFault, ReportFault};
+use ent_wire::Refusal;
 use std::alloc::AllocError;
 
 impl<E: Evaluates> Service<E> {

@@ -10,8 +10,8 @@ ghost use Rattle.ent_line.specs.Reports.{by_rule_reply, can_reply, changes_reply
 ghost use Rattle.ent_line.specs.Reports.{who_reply, work_reply};
 ghost use Rattle.ent_line.specs.proofs_only.Writing.{Adds, Spells, Writes, WritesEach};
 
-use crate::cell::decision_text;
 use ent_combine::Outcome;
+use ent_command::decision_text;
 use ent_json::{JsonText, write_count, write_text};
 use ent_report::{Counts, Notice};
 use ent_values::Text;

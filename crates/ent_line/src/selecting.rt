@@ -1,7 +1,6 @@
 //! The cells that are asked for: the reply to `cells`.
 
-ghost use Rattle.std.specs.Prelude.{◌≡◌, true, bytes_eq, codes, filter, map};
-ghost use Rattle.std.specs.Prelude.{option_copied, option_map};
+ghost use Rattle.std.specs.Prelude.{◌≡◌, true, bytes_eq, codes, filter, map, option_copied, option_map};
 ghost use Rattle.std.specs.List.{list_any};
 ghost use Rattle.std.specs.Option.{option_map_or};
 ghost use Rattle.serde_json.specs.View.{items_of};
@@ -12,21 +11,21 @@ ghost use Rattle.ent_table.specs.Left.{cells_left};
 ghost use Rattle.ent_table.specs.Names.{Triple, has_name, list_of, triple_of};
 ghost use Rattle.ent_line.specs.Cells.{cell_data, cells_reply, list_data};
 ghost use Rattle.ent_line.specs.Commands.{cells_told};
-ghost use Rattle.ent_line.specs.Wanted.{has_decision, is_asked, is_word_of};
-ghost use Rattle.ent_line.specs.proofs_only.CommandView.{wanted_view};
+ghost use Rattle.ent_command.specs.Wanted.{has_decision, is_asked, is_word_of};
+ghost use Rattle.ent_command.specs.CommandView.{wanted_view};
 ghost use Rattle.ent_line.specs.proofs_only.Replying.{Tells};
 ghost use Rattle.ent_line.specs.proofs_only.Selecting.{holds, names_listed, selects};
 ghost use Rattle.ent_line.specs.proofs_only.Writing.{Spells, Writes, WritesEach};
 
 use crate::cell::write_cell;
-use crate::refusal::Refusal;
 use crate::reply::Reply;
 use crate::service::Service;
-use crate::wanted::{WantedCells, is_word_of};
 use ent_combine::{IndKind, Outcome};
+use ent_command::{WantedCells, is_word_of};
 use ent_eval::{Answer, Evaluates};
 use ent_json::{JsonText, JsonTree};
 use ent_table::{Cells, List};
+use ent_wire::Refusal;
 use std::alloc::{AllocError, Global};
 
 /// For each decision whether it is one of some.

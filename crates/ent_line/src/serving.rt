@@ -7,12 +7,12 @@ ghost use Rattle.ent_line.specs.proofs_only.Pieces.{AnswersLine};
 ghost use Rattle.ent_line.specs.World.{counted_of};
 
 use crate::answering::Answering;
-use crate::fault::ServeFault;
-use crate::input::{InputPiece, LINE_LIMIT, take_piece};
+use crate::input::{InputPiece, take_piece};
 use crate::law::replies_are_fresh;
 use crate::reply::send_reply;
 use crate::service::Service;
 use ent_eval::Evaluates;
+use ent_wire::{LINE_LIMIT, ServeFault};
 use std::alloc::Global;
 use std::io::{BufRead, Write};
 

@@ -1,49 +1,34 @@
 -- How the program ends, and with which exit status.
-use Rattle.std.specs.Prelude.{◌≡◌, ◌≢◌, ◌⊎◌, ℕ, List, Bool, Option, Some, None, Result, Ok, Err, ⊤}
+use Rattle.std.specs.Prelude.{◌≡◌, ◌≢◌, ◌⊎◌, ℕ, List, Bool, Option, Some, None, Result, Err, ⊤, if◌then◌else◌}
 use Rattle.clap.specs.Walk.{Row}
 use Rattle.clap.specs.declared.error.kind.ErrorKind.{ErrorKind}
 use Rattle.ent_dump.specs.declared.fault.LinesFault.{LinesFault}
-use Rattle.ent_line.specs.declared.fault.ServeFault.{ServeFault}
-use Rattle.ent_program.specs.Limiting.{IsWrongOf}
-use Rattle.ent_program.specs.Options.{IsTaskOf}
-use Rattle.ent_program.specs.Statuses.{checked_status, compare_status, covered_status, last_status, limit_status, lines_status}
-use Rattle.ent_program.specs.Statuses.{serve_status, test_status, told_status, unmet_status, words_status}
-use Rattle.ent_program.specs.Sources.{path_of}
-use Rattle.ent_program.specs.declared.asked_states.AskedStates.{AskedStates}
-use Rattle.ent_program.specs.declared.differing.Ending.{Ending}
-use Rattle.ent_program.specs.declared.differing.Failing.{Failing}
-use Rattle.ent_program.specs.declared.found.FaultCount.{FaultCount}
-use Rattle.ent_program.specs.declared.limiting.WrongLimit.{WrongLimit}
-use Rattle.ent_program.specs.declared.options.Task.{Task}
-use Rattle.ent_program.specs.declared.options.Task.TheVariants as task
-use Rattle.ent_program.specs.declared.status.Unmet.{Unmet}
-use Rattle.ent_program.specs.declared.status.Unmet.TheVariants.{Refused}
-use Rattle.ent_program.specs.declared.tally.Tally.{Tally}
-use Rattle.ent_program.specs.declared.words.WordsFault.{WordsFault}
+use Rattle.ent_wire.specs.declared.fault.ServeFault.{ServeFault}
+use Rattle.cli_serve.specs.Limiting.{IsWrongOf}
+use Rattle.cli_words.specs.Options.{IsTaskOf}
+use Rattle.cli_check.specs.Statuses.{checked_status}
+use Rattle.cli_compare.specs.Statuses.{compare_status}
+use Rattle.cli_words.specs.Statuses.{limit_status, words_status}
+use Rattle.cli_serve.specs.Statuses.{lines_status, serve_status}
+use Rattle.cli_compare.specs.declared.differing.Ending.{Ending}
+use Rattle.cli_words.specs.declared.asked_states.Failing.{Failing}
+use Rattle.cli_check.specs.declared.found.FaultCount.{FaultCount}
+use Rattle.cli_words.specs.declared.words.WrongLimit.{WrongLimit}
+use Rattle.cli_words.specs.declared.options.Task.{Task}
+use Rattle.cli_words.specs.declared.options.Task.TheVariants as task
+use Rattle.cli_words.specs.declared.status.Unmet.{Unmet}
+use Rattle.cli_words.specs.declared.status.Unmet.TheVariants.{Refused}
+use Rattle.cli_words.specs.declared.words.WordsFault.{WordsFault}
+use Rattle.cli_test.specs.Ends.{Ran, ran_status}
+use Rattle.cli_compare.specs.Ends.{IsOfStates}
+use Rattle.clap.specs.declared.error.kind.ErrorKind.TheVariants.{DisplayHelp, DisplayVersion, OutOfMemory}
 
--- how the tests of files ended: how many passed and failed, whether fewer rules than have to gave a decision, and the last fault of a file, if
--- there was one
-pub record Ran : Type 0 where
-  pub tested : Result Tally ServeFault
-  pub is_short : Bool
-  pub fault : Option ServeFault
-
--- the exit status of tests
-abbrev pub ran_status : Result Ran Unmet → ℕ
-ran_status (Ok ran) = last_status ran.fault (covered_status ran.is_short (test_status ran.tested))
-ran_status (Err u) = unmet_status u
-
--- it is that of tests that ended somehow
-abbrev pub IsOfTests : ℕ → Type 0
-IsOfTests status = (ran : Result Ran Unmet) × (status ≡ ran_status ran)
-
--- both states are to be read from standard input, which gives its bytes once
-abbrev pub NameInputTwice : AskedStates → Type 0
-NameInputTwice states = (path_of states.state ≡ None) × (path_of states.changes ≡ None)
-
--- a comparison of these states: for such words alone it is refused
-abbrev pub IsOfStates : AskedStates → Result Ending Unmet → Type 0
-IsOfStates states compared = compared ≡ Err Refused → NameInputTwice states
+-- the status of such a command line where what is asked to be told may be lost: that is a write fault
+abbrev pub told_status : Bool → ErrorKind → ℕ
+told_status lost DisplayHelp = if lost then 2 else 0
+told_status lost DisplayVersion = if lost then 2 else 0
+told_status lost OutOfMemory = 3
+told_status lost other = 1
 
 -- how the program ends
 pub data End : Type 0 where

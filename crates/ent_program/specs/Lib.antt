@@ -1,15 +1,1 @@
-pub mod Checking
-pub mod Comparing
-pub mod Declaring
-pub mod Differing
 pub mod Ends
-pub mod Limiting
-pub mod Listing
-pub mod Meant
-pub mod Options
-pub mod Sentences
-pub mod Sources
-pub mod Starting
-pub mod Statuses
-pub mod Testing
-pub mod proofs_only

@@ -31,7 +31,8 @@ use Rattle.ent_request.specs.declared.given.Given.{Given}
 use Rattle.ent_telling.specs.Paths.{key_data, path_data, rule_data, status_text}
 use Rattle.ent_profile.specs.Response.{assignment_written, given_written}
 use Rattle.ent_table.specs.Names.{Triple}
-use Rattle.ent_line.specs.Cells.{cell_data, decision_text, entry_data, list_data}
+use Rattle.ent_line.specs.Cells.{cell_data, entry_data, list_data}
+use Rattle.ent_command.specs.Wanted.{decision_text}
 use Rattle.law_restart.proofs.Utf8Data.{IfThere, IsUtf8Data}
 use Rattle.law_restart.proofs.Utf8Documents.{version_utf8}
 use Rattle.law_restart.proofs.Utf8Values.{uri_utf8}

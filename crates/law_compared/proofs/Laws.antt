@@ -7,17 +7,17 @@ use Rattle.serde_json.specs.Written.{compact_text}
 use Rattle.ent_table.specs.Names.{Triple}
 use Rattle.ent_table.specs.State.{table_of}
 use Rattle.ent_report.specs.World.{World}
-use Rattle.ent_line.specs.Asked as asked
-use Rattle.ent_line.specs.Asked.{Command, command_in}
+use Rattle.ent_command.specs.Asked as asked
+use Rattle.ent_command.specs.Asked.{Command, command_in}
 use Rattle.ent_line.specs.Cells.{table_reply}
 use Rattle.ent_line.specs.Beside.{Beside}
 use Rattle.ent_line.specs.Commands.{heard, requested, respond, run, table_told, told}
-use Rattle.ent_line.specs.History.{asked_by}
-use Rattle.ent_line.specs.Lines.{line_limit}
+use Rattle.ent_command.specs.Asking.{asked_by}
+use Rattle.ent_wire.specs.Lines.{line_limit}
 use Rattle.ent_line.specs.Replies.{refused, text}
 use Rattle.ent_line.specs.Step.{Answers, data_of}
-use Rattle.ent_line.specs.declared.refusal.Refusal.{Refusal}
-use Rattle.ent_line.specs.declared.refusal.Refusal.TheVariants.{TooLong}
+use Rattle.ent_wire.specs.declared.refusal.Refusal.{Refusal}
+use Rattle.ent_wire.specs.declared.refusal.Refusal.TheVariants.{TooLong}
 use Rattle.law_restart.proofs.Restart.{after_run}
 use Rattle.script_compare.specs.Changes.{difference_of, is_nothing}
 use Rattle.law_compared.specs.Difference.{cell_at}

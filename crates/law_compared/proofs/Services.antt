@@ -19,32 +19,33 @@ use Rattle.serde_json.specs.Data.{Data}
 use Rattle.serde_json.specs.Written.{compact_text}
 use Rattle.ent_json.specs.Line.{data_of}
 use Rattle.ent_polform.proofs.Fitting.{Fits, object_fits, text_fits}
-use Rattle.ent_program.specs.Limiting.{bounded}
+use Rattle.cli_serve.specs.Limiting.{bounded}
 use Rattle.ent_table.specs.State.{table_of}
 use Rattle.law_rebuild.proofs.Started.{emptied_new}
 use Rattle.ent_report.specs.World.{World}
-use Rattle.ent_line.specs.Asked as asked
-use Rattle.ent_line.specs.Asked.{Command, command_in, form_of}
+use Rattle.ent_command.specs.Asked as asked
+use Rattle.ent_command.specs.Asked.{Command, command_in, form_of}
 use Rattle.ent_line.specs.Beside.{Beside}
 use Rattle.ent_line.specs.Cells.{table_reply}
 use Rattle.ent_line.specs.Commands.{heard, requested, respond, run, table_told, told}
 use Rattle.ent_line.specs.Headline.{IsHeadline}
-use Rattle.ent_line.specs.History.{asked_by}
-use Rattle.ent_line.specs.Lines.{IsOneLine, NoNewline, Splits, ended}
+use Rattle.ent_command.specs.Asking.{asked_by}
+use Rattle.ent_wire.specs.Lines.{IsOneLine, NoNewline, Splits, ended}
 use Rattle.ent_line.specs.Replies.{Answer, line_of, refused, text}
 use Rattle.ent_line.specs.Runs.{Handling, Run}
 use Rattle.ent_line.specs.Serving.{with_last}
 use Rattle.ent_line.specs.Step.{Answers, at_start}
-use Rattle.ent_line.specs.declared.refusal.Refusal.{Refusal}
-use Rattle.ent_line.specs.declared.refusal.Refusal.TheVariants.{Memory}
+use Rattle.ent_wire.specs.declared.refusal.Refusal.{Refusal}
+use Rattle.ent_wire.specs.declared.refusal.Refusal.TheVariants.{Memory}
 use Rattle.ent_line.proofs.LineLemmas.{split_once}
 use Rattle.law_restart.proofs.Lines.{texts_are_lines}
 use Rattle.law_restart.proofs.Texts.{texts_read_back}
 use Rattle.script_files.specs.declared.session.SentLine.{SentLine}
-use Rattle.ent_program.specs.Comparing.{behind, is_newline, is_wanting}
-use Rattle.ent_program.specs.Differing.{base_of, is_state, table_line}
-use Rattle.ent_program.specs.Starting.{categories, start_of}
-use Rattle.ent_program.specs.Testing.{AreRepliesTo, asked as sent}
+use Rattle.cli_replies.specs.Comparing.{behind, is_newline, is_wanting}
+use Rattle.cli_compare.specs.Differing.{base_of, is_state, table_line}
+use Rattle.cli_serve.specs.Starting.{categories, start_of}
+use Rattle.cli_serve.specs.Replying.{AreRepliesTo}
+use Rattle.cli_replies.specs.Comparing.{asked as sent}
 use Rattle.law_compared.specs.Difference.{IsDifference}
 use Rattle.law_compared.specs.Services.{AreLines, ComparisonsTellTables, IsTableOf, TablesAreReplies, lines_in}
 use Rattle.law_compared.proofs.Laws.{differences_are_told}

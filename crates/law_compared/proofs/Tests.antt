@@ -11,7 +11,8 @@ use Rattle.ent_table.specs.Names.{Triple}
 use Rattle.ent_polform.specs.Plain.{IsPlain}
 use Rattle.script_matching.specs.Matching.{fits}
 use Rattle.script_compare.specs.Changes.{same_decision}
-use Rattle.ent_line.specs.Cells.{cell_data, decision_text}
+use Rattle.ent_line.specs.Cells.{cell_data}
+use Rattle.ent_command.specs.Wanted.{decision_text}
 use Rattle.law_compared.proofs.Alike.{fits_decides}
 use Rattle.law_compared.proofs.Cells.{decisions_told, no_decision, some_decision}
 use Rattle.law_compared.proofs.Compared.{tells_other}

@@ -4,8 +4,8 @@ use Rattle.serde_json.specs.Data.{Data}
 use Rattle.ent_table.specs.Names.{Triple}
 use Rattle.law_rebuild.specs.Rebuilding.{emptied}
 use Rattle.ent_report.specs.World.{World}
-use Rattle.ent_line.specs.Asked as asked
-use Rattle.ent_line.specs.History.{asked_by}
+use Rattle.ent_command.specs.Asked as asked
+use Rattle.ent_command.specs.Asking.{asked_by}
 use Rattle.ent_line.specs.Replies.{Answer, text}
 use Rattle.ent_line.specs.Runs.{Run}
 use Rattle.ent_line.specs.Step.{Answers}

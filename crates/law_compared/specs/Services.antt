@@ -4,18 +4,18 @@ use Rattle.std.specs.Io.KnownBytes.{Appends}
 use Rattle.std.specs.List.{All}
 use Rattle.serde_json.specs.Data.{Data}
 use Rattle.ent_report.specs.World.{World}
-use Rattle.ent_line.specs.Lines.{NoNewline}
+use Rattle.ent_wire.specs.Lines.{NoNewline}
 use Rattle.ent_line.specs.Replies.{Answer}
 use Rattle.ent_line.specs.Runs.{Run}
 use Rattle.ent_line.specs.Step.{Answers}
 use Rattle.script_files.specs.declared.session.SentLine.{SentLine}
-use Rattle.ent_program.specs.Differing.{IsTableBehind, IsTextOf, TellsDifference, base_of, ended_by}
-use Rattle.ent_program.specs.Limiting.{bounded}
-use Rattle.ent_program.specs.Starting.{start_of}
+use Rattle.cli_compare.specs.Differing.{IsTableBehind, IsTextOf, TellsDifference, base_of, ended_by}
+use Rattle.cli_serve.specs.Limiting.{bounded}
+use Rattle.cli_serve.specs.Starting.{start_of}
 use Rattle.ent_table.specs.declared.limits.Limits.{Limits}
-use Rattle.ent_program.specs.declared.differing.Ending.{Ending}
-use Rattle.ent_program.specs.declared.differing.Form.{Form}
-use Rattle.ent_program.specs.declared.differing.Lines.{Lines}
+use Rattle.cli_compare.specs.declared.differing.Ending.{Ending}
+use Rattle.cli_words.specs.declared.asked_states.Form.{Form}
+use Rattle.cli_replies.specs.declared.lines.Lines.{Lines}
 use Rattle.law_compared.specs.Difference.{IsDifference}
 use Rattle.law_compared.specs.Laws.{Replies}
 

@@ -32,10 +32,10 @@ use Rattle.ent_table.specs.declared.edit.Edit.{Edit}
 use Rattle.ent_table.specs.declared.edit.Edit.TheVariants.{AddPolicy, ReplacePolicy, WithdrawPolicy, SetAttribute, AddName, DropName, SetRoot, SetDay, SetMoment}
 use Rattle.ent_table.specs.declared.edit.List.TheVariants as which
 use Rattle.ent_dump.specs.Edits.{edit_data}
-use Rattle.ent_line.specs.Asked as asked
-use Rattle.ent_line.specs.Asked.{Change, command_in, form_of, naming, setting, storing, withdrawing}
-use Rattle.ent_line.specs.Keys.{AskedRow, category_named, kind_named, row_in}
-use Rattle.ent_line.specs.Edits.{edit_of, key_of_row, row_fault, row_read, values_in}
+use Rattle.ent_command.specs.Asked as asked
+use Rattle.ent_command.specs.Asked.{Change, command_in, form_of, naming, setting, storing, withdrawing}
+use Rattle.ent_command.specs.Keys.{AskedRow, category_named, kind_named, row_in}
+use Rattle.ent_command.specs.Edits.{edit_of, key_of_row, row_fault, row_read, values_in}
 use Rattle.law_restart.specs.Carried.{IsRead, IsReadRow, values_of}
 use Rattle.law_restart.specs.Laws.{EditsReadBack}
 use Rattle.law_restart.proofs.Read.{first_read, read_if, read_with}

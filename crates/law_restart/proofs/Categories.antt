@@ -6,10 +6,10 @@ use Rattle.serde_json.specs.Data.{Data, Items}
 use Rattle.serde_json.specs.Find.{as_array, get}
 use Rattle.ent_json.specs.Objects.{text_at, text_or_absent}
 use Rattle.ent_request.specs.Uris as uris
-use Rattle.ent_line.proofs.ChangeLemmas.{HoldsOfReads, change_asked}
-use Rattle.ent_line.specs.Asked as asked
-use Rattle.ent_line.specs.Asked.{Change, command_in, naming, setting, storing, withdrawing}
-use Rattle.ent_line.specs.Keys.{◌>>=◌, AskedRow, category_named, kind_named, null_or_text_at, number_at, row_in}
+use Rattle.ent_command.proofs.ChangeLemmas.{HoldsOfReads, change_asked}
+use Rattle.ent_command.specs.Asked as asked
+use Rattle.ent_command.specs.Asked.{Change, command_in, naming, setting, storing, withdrawing}
+use Rattle.ent_command.specs.Keys.{◌>>=◌, AskedRow, category_named, kind_named, null_or_text_at, number_at, row_in}
 use Rattle.ent_polform.proofs.TypedValues.{AreSized, IsSized, then_there}
 use Rattle.law_restart.proofs.Sized.{array_sized, get_sized, line_sized}
 use Rattle.law_restart.proofs.Utf8Data.{AreUtf8Items, IfThere, IsUtf8Data, array_utf8, get_utf8, line_utf8, text_utf8}

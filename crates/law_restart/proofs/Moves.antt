@@ -9,18 +9,18 @@ use Rattle.ent_table.specs.declared.edit.Edit.{Edit}
 use Rattle.ent_table.specs.declared.edit.EditFault.{EditFault}
 use Rattle.ent_dump.specs.Edits.{edit_data}
 use Rattle.ent_report.specs.World.{World}
-use Rattle.ent_line.specs.Asked as asked
-use Rattle.ent_line.specs.Asked.{Change, Command, command_in}
+use Rattle.ent_command.specs.Asked as asked
+use Rattle.ent_command.specs.Asked.{Change, Command, command_in}
 use Rattle.ent_line.specs.Beside.{Beside}
 use Rattle.ent_line.specs.Commands.{edited, heard, made, requested, respond, run, settled, table_marked}
-use Rattle.ent_line.specs.Edits.{edit_of}
-use Rattle.ent_line.specs.Lines.{line_limit}
+use Rattle.ent_command.specs.Edits.{edit_of}
+use Rattle.ent_wire.specs.Lines.{line_limit}
 use Rattle.ent_line.specs.Replies.{Answer, refused}
 use Rattle.ent_line.specs.Step.{Answers, data_of}
-use Rattle.ent_line.specs.declared.making.NoEdit.{NoEdit}
-use Rattle.ent_line.specs.declared.making.NoEdit.TheVariants as no_edit
-use Rattle.ent_line.specs.declared.refusal.Refusal.{Refusal}
-use Rattle.ent_line.specs.declared.refusal.Refusal.TheVariants.{TooLong}
+use Rattle.ent_command.specs.declared.making.NoEdit.{NoEdit}
+use Rattle.ent_command.specs.declared.making.NoEdit.TheVariants as no_edit
+use Rattle.ent_wire.specs.declared.refusal.Refusal.{Refusal}
+use Rattle.ent_wire.specs.declared.refusal.Refusal.TheVariants.{TooLong}
 use Rattle.law_restart.specs.Carried.{IsRead}
 use Rattle.law_restart.proofs.Categories.{IsOfLine, line_is}
 use Rattle.law_restart.proofs.Read.{asked_read}

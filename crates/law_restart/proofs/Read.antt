@@ -26,10 +26,10 @@ use Rattle.ent_table.specs.declared.edit.Edit.{Edit}
 use Rattle.ent_table.specs.declared.edit.EditFault.{EditFault}
 use Rattle.ent_table.specs.declared.edit.EditFault.TheVariants.{BadValue}
 use Rattle.ent_table.specs.declared.edit.Edit.TheVariants.{AddPolicy, ReplacePolicy, WithdrawPolicy, SetAttribute, AddName, DropName, SetRoot, SetDay, SetMoment}
-use Rattle.ent_line.specs.Asked as asked
-use Rattle.ent_line.specs.Asked.{Change, command_in}
-use Rattle.ent_line.specs.Edits.{edit_of, if_read, key_of_row, module_number, root_of, row_fault, row_read, values_in, with_read}
-use Rattle.ent_line.specs.Keys.{AskedRow, category_named}
+use Rattle.ent_command.specs.Asked as asked
+use Rattle.ent_command.specs.Asked.{Change, command_in}
+use Rattle.ent_command.specs.Edits.{edit_of, if_read, key_of_row, module_number, root_of, row_fault, row_read, values_in, with_read}
+use Rattle.ent_command.specs.Keys.{AskedRow, category_named}
 use Rattle.law_restart.specs.Carried.{IsRead, IsReadRow}
 use Rattle.law_restart.proofs.Categories.{IsOfLine, IsWhole, change_read}
 use Rattle.law_restart.proofs.References.{checked_reference}

@@ -17,11 +17,11 @@ use Rattle.ent_table.specs.State.{State}
 use Rattle.ent_report.specs.World.{World}
 use Rattle.ent_line.specs.Commands.{dump_told}
 use Rattle.ent_line.specs.Dumping.{can_tell, is_moment}
-use Rattle.ent_line.specs.Lines.{NoNewline}
+use Rattle.ent_wire.specs.Lines.{NoNewline}
 use Rattle.ent_line.specs.Replies.{Answer, answered, text}
 use Rattle.ent_line.specs.Runs.{Run}
 use Rattle.ent_line.specs.Step.{Answers}
-use Rattle.ent_line.specs.declared.refusal.Refusal.TheVariants.{BadValue}
+use Rattle.ent_wire.specs.declared.refusal.Refusal.TheVariants.{BadValue}
 use Rattle.law_restart.specs.Carried.{IsRead}
 use Rattle.law_restart.specs.Restart.{HasFewModules, IsShortText, RepliesReadBack, RepliesRestart, TakenRepliesRestart}
 use Rattle.ent_polform.proofs.Fitting.{Fits, list_fits, one_fits, text_fits}

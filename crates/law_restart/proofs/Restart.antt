@@ -28,20 +28,20 @@ use Rattle.law_rebuild.specs.Sound.{IsSound, IsSoundEdit}
 use Rattle.ent_dump.specs.Dumped.{dumped, format_data}
 use Rattle.ent_dump.specs.Edits.{edit_data}
 use Rattle.ent_report.specs.World.{World}
-use Rattle.ent_line.specs.Asked as asked
-use Rattle.ent_line.specs.Asked.{command_in, form_of}
+use Rattle.ent_command.specs.Asked as asked
+use Rattle.ent_command.specs.Asked.{command_in, form_of}
 use Rattle.ent_line.specs.Beside.{Beside}
 use Rattle.ent_line.specs.Commands.{edited, format_told, heard, made, requested, respond, run, settled, told}
 use Rattle.ent_line.specs.Dumping.{format_reply, is_moment, is_version}
-use Rattle.ent_line.specs.Edits.{edit_of}
-use Rattle.ent_line.specs.Lines.{line_limit}
+use Rattle.ent_command.specs.Edits.{edit_of}
+use Rattle.ent_wire.specs.Lines.{line_limit}
 use Rattle.ent_line.specs.Replies.{Answer, accepted, answered, refused, text}
 use Rattle.ent_line.specs.Runs.{Run}
 use Rattle.ent_line.specs.Step.{Answers, data_of}
-use Rattle.ent_line.specs.declared.making.NoEdit.{NoEdit}
-use Rattle.ent_line.specs.declared.making.NoEdit.TheVariants as no_edit
-use Rattle.ent_line.specs.declared.refusal.Refusal.{Refusal}
-use Rattle.ent_line.specs.declared.refusal.Refusal.TheVariants.{Memory, TooLong}
+use Rattle.ent_command.specs.declared.making.NoEdit.{NoEdit}
+use Rattle.ent_command.specs.declared.making.NoEdit.TheVariants as no_edit
+use Rattle.ent_wire.specs.declared.refusal.Refusal.{Refusal}
+use Rattle.ent_wire.specs.declared.refusal.Refusal.TheVariants.{Memory, TooLong}
 use Rattle.law_restart.specs.Carried.{IsRead, values_of}
 use Rattle.law_restart.specs.Restart.{AreTaken, DumpsRestart, HasFewModules, IsAccepted, IsNoWant, IsRestarted, IsShortState, IsShortText, TakenDumpsRestart}
 use Rattle.law_restart.proofs.Asked.{asked_of, command_asked, edit_few, read_back}

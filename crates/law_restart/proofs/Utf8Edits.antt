@@ -38,10 +38,10 @@ use Rattle.ent_table.specs.declared.edit.List.TheVariants as which
 use Rattle.law_rebuild.specs.Rebuilding.{as_added}
 use Rattle.ent_dump.specs.Dumped.{format_data}
 use Rattle.ent_dump.specs.Edits.{adding, document_data, dropping, edit_data, name_data, row_data, written_root}
-use Rattle.ent_line.specs.Asked as asked
-use Rattle.ent_line.specs.Asked.{Change, command_in}
-use Rattle.ent_line.specs.Keys.{AskedRow}
-use Rattle.ent_line.specs.Edits.{edit_of, key_of_row, module_number, root_of, row_fault, row_read, values_in}
+use Rattle.ent_command.specs.Asked as asked
+use Rattle.ent_command.specs.Asked.{Change, command_in}
+use Rattle.ent_command.specs.Keys.{AskedRow}
+use Rattle.ent_command.specs.Edits.{edit_of, key_of_row, module_number, root_of, row_fault, row_read, values_in}
 use Rattle.law_restart.proofs.Categories.{IsOfLine, IsWhole, IsWholeRow, category_utf8, change_read}
 use Rattle.ent_polform.proofs.TypedValues.{date_real, moment_real}
 use Rattle.law_restart.proofs.Read.{read_if, read_with, then_read}

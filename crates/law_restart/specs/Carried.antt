@@ -12,7 +12,7 @@ use Rattle.ent_polform.specs.ReadBack.{IsReference}
 use Rattle.ent_table.specs.declared.edit.Edit.{Edit}
 use Rattle.ent_table.specs.declared.edit.Edit.TheVariants.{AddPolicy, ReplacePolicy, WithdrawPolicy, SetAttribute}
 use Rattle.ent_table.specs.declared.edit.Edit.TheVariants.{AddName, DropName, SetRoot, SetDay, SetMoment}
-use Rattle.ent_line.specs.Keys.{category_named}
+use Rattle.ent_command.specs.Keys.{category_named}
 
 -- a row's category is one that rows have, and each of its values has its type and is what the type says
 pub record IsReadRow (key : RowKey) (values : List Value) : Type 0 where

@@ -5,8 +5,8 @@ use Rattle.serde_json.specs.Data.{Data}
 use Rattle.ent_values.specs.ReadBack.{HasFewYears}
 use Rattle.ent_table.specs.declared.edit.Edit.{Edit}
 use Rattle.ent_dump.specs.Edits.{edit_data}
-use Rattle.ent_line.specs.Asked.{Change, change, command_in}
-use Rattle.ent_line.specs.Edits.{edit_of}
+use Rattle.ent_command.specs.Asked.{Change, change, command_in}
+use Rattle.ent_command.specs.Edits.{edit_of}
 use Rattle.law_restart.specs.Carried.{IsRead, values_of}
 
 -- this JSON asks, in session 0, for a change that makes that edit

@@ -4,7 +4,7 @@ use Rattle.std.specs.Str.{is_utf8}
 use Rattle.serde_json.specs.Data.{Data, depth}
 use Rattle.serde_json.specs.Read.{max_depth}
 use Rattle.serde_json.specs.Written.{compact_text}
-use Rattle.ent_line.specs.Lines.{NoNewline}
+use Rattle.ent_wire.specs.Lines.{NoNewline}
 use Rattle.ent_json.specs.Line.{data_of}
 pub use Rattle.ent_polform.specs.Plain.{AreBehind, ArePlainItems, ArePlainMembers, IsPlain, IsWholeNumber}
 

@@ -10,11 +10,11 @@ use Rattle.ent_dump.specs.Reply.{texts_of}
 use Rattle.ent_report.specs.World.{World}
 use Rattle.ent_line.specs.Commands.{dump_told}
 use Rattle.ent_line.specs.Dumping.{can_tell, format_reply, is_version}
-use Rattle.ent_line.specs.Lines.{NoNewline, line_limit}
+use Rattle.ent_wire.specs.Lines.{NoNewline, line_limit}
 use Rattle.ent_line.specs.Replies.{Answer, accepted, answered, refused, text}
 use Rattle.ent_line.specs.Runs.{Run}
 use Rattle.ent_line.specs.Step.{Answers}
-use Rattle.ent_line.specs.declared.refusal.Refusal.TheVariants.{Memory}
+use Rattle.ent_wire.specs.declared.refusal.Refusal.TheVariants.{Memory}
 use Rattle.law_restart.specs.Carried.{values_of}
 
 -- no duration in a state's documents and rows has more whole years than can be read

@@ -70,7 +70,7 @@ fn versions(alloc: Global, keys: &[&DocKey]) -> Result<String, AllocError> {
 ///
 /// `AllocError` if memory runs out.
 ///
-/// Its contract leaves open: all of it: the sentence is shown by the stored run `together_told`.
+/// Its contract leaves open: all of it: the sentence is shown by the stored run `lint_told`.
 pub fn unfound_sentence(
     alloc: Global,
     all: &[Held<'_>],
@@ -101,7 +101,7 @@ pub fn unfound_sentence(
 ///
 /// `AllocError` if memory runs out.
 ///
-/// Its contract leaves open: all of it: the name is shown by the stored run `together_told`.
+/// Its contract leaves open: all of it: the name is shown by the stored run `lint_told`.
 pub fn named(alloc: Global, key: &DocKey) -> Result<String, AllocError> {
     let (kind, id) = (key.kind.word(), key.id.as_str());
     let version = key.version.text(alloc)?;
@@ -170,7 +170,7 @@ fn put_name(
 ///
 /// `AllocError` if memory runs out.
 ///
-/// Its contract leaves open: all of it: the sentence is shown by the stored run `together_told`.
+/// Its contract leaves open: all of it: the sentence is shown by the stored run `lint_told`.
 pub fn endless_sentence(
     alloc: Global,
     all: &[Held<'_>],
@@ -188,7 +188,7 @@ pub fn endless_sentence(
 ///
 /// `AllocError` if memory runs out.
 ///
-/// Its contract leaves open: all of it: the sentence is shown by the stored run `together_told`.
+/// Its contract leaves open: all of it: the sentence is shown by the stored run `lint_told`.
 pub fn unreached_sentence(alloc: Global, keys: &[&DocKey]) -> Result<String, AllocError> {
     let mut text = String::new(alloc);
     for key in keys.iter().take(MOST_VERSIONS) {

@@ -56,7 +56,7 @@ impl<'t> Places<'t> {
     ///
     /// `AllocError` if memory runs out.
     ///
-    /// Its contract leaves open: all of it: which line and column a place has is shown by the stored run `faults_told`.
+    /// Its contract leaves open: all of it: which line and column a place has is shown by the stored run `lint_told`.
     pub fn line_and_column(&mut self, pointer: &str) -> Result<Position, AllocError> {
         let common = self.common(pointer);
         self.steps.truncate(common);

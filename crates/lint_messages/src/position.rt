@@ -46,7 +46,7 @@ pub(crate) fn position_of(text: &[u8], from_there: &[u8]) -> Position {
 ///
 /// `AllocError` if memory runs out.
 ///
-/// Its contract leaves open: all of it: which line and column a place has is shown by the stored run `faults_told`.
+/// Its contract leaves open: all of it: which line and column a place has is shown by the stored run `lint_told`.
 pub fn line_and_column(alloc: Global, text: &[u8], pointer: &str) -> Result<Position, AllocError> {
     let there = text_at(alloc, text, pointer)?;
     Ok(position_of(text, there))

@@ -15,7 +15,7 @@ const MOST_SHOWN: usize = 80;
 ///
 /// `AllocError` if memory runs out.
 ///
-/// Its contract leaves open: all of it: what is left of a word is shown by `faults_told`.
+/// Its contract leaves open: all of it: what is left of a word is shown by `lint_told`.
 pub fn shortened(alloc: Global, word: &str) -> Result<String, AllocError> {
     let mut shown = String::new(alloc);
     for (number, character) in word.chars().enumerate() {

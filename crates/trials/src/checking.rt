@@ -1,8 +1,8 @@
 //! The check of a policy by a reader and by a writer that break.
 
 use crate::serving::Narrow;
+use cli_check::check_from;
 use ent_line::ServeFault;
-use ent_program::check_from;
 use std::alloc::Global;
 use std::io;
 use std::io::{ErrorKind, Read};

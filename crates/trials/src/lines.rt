@@ -2,9 +2,9 @@
 
 use crate::checking::Breaking;
 use crate::serving::Narrow;
+use cli_serve::lines_status;
 use ent_dump::dump_lines_within;
 use ent_line::{LinesFault, dump_lines};
-use ent_program::lines_status;
 use std::alloc::{AllocError, Global};
 use std::io;
 use std::io::{ErrorKind, Read};

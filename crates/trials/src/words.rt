@@ -2,12 +2,11 @@
 
 use crate::help::SAID;
 use clap::ArgMatches;
+use cli_check::{FileFault, file_sentence};
+use cli_serve::{given_limits, lines_status};
+use cli_words::{WordsFault, command, given_words, status_of, task_of, usage_status, words_status};
 use ent_line::{LinesFault, ServeFault};
 use ent_policy::DocFault;
-use ent_program::{
-    FileFault, WordsFault, command, file_sentence, given_limits, given_words, lines_status,
-    status_of, task_of, usage_status, words_status,
-};
 use std::alloc::{AllocError, Global};
 use std::cell::RefCell;
 use std::env::FillError;

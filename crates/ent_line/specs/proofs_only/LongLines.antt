@@ -6,11 +6,11 @@ use Rattle.ent_table.specs.State.{State}
 use Rattle.ent_line.specs.Answering.{LongLinesAlike}
 use Rattle.ent_line.specs.Beside.{Beside}
 use Rattle.ent_line.specs.Commands.{respond}
-use Rattle.ent_line.specs.Lines.{line_limit}
+use Rattle.ent_wire.specs.Lines.{line_limit}
 use Rattle.ent_line.specs.Replies.{refused}
 use Rattle.ent_line.specs.Step.{Counts}
 use Rattle.ent_line.specs.Work.{IsWorked, line_work}
-use Rattle.ent_line.specs.declared.refusal.Refusal.TheVariants.{TooLong}
+use Rattle.ent_wire.specs.declared.refusal.Refusal.TheVariants.{TooLong}
 
 too_long : (n : Beside) (w : World) (line : List ℕ) → line_limit < length line → respond n w line ≡ (refused TooLong, w)
 unfolding respond

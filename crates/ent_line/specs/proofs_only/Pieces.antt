@@ -1,12 +1,12 @@
 -- What taking a piece of input, and answering a line, do to the known bytes of a reader and a writer.
 use Rattle.std.specs.Prelude.{◌≡◌, ℕ, ◌+◌, List, [], ◌++◌, Option, Result, Ok, Err, take, OnSome, ⊤}
 use Rattle.std.specs.Io.KnownBytes.{Consumes, IsAtEnd}
-use Rattle.ent_line.specs.declared.fault.ServeFault.{ServeFault}
-use Rattle.ent_line.specs.declared.fault.ServeFault.TheVariants.{Read}
+use Rattle.ent_wire.specs.declared.fault.ServeFault.{ServeFault}
+use Rattle.ent_wire.specs.declared.fault.ServeFault.TheVariants.{Read}
 use Rattle.ent_line.specs.declared.input.InputPiece.{InputPiece}
 use Rattle.ent_line.specs.declared.input.InputPiece.TheVariants.{End, Part, Line}
-use Rattle.ent_line.specs.Lines.{NoNewline, ended, line_limit}
-use Rattle.ent_line.specs.Pieces.{Sends}
+use Rattle.ent_wire.specs.Lines.{NoNewline, ended, line_limit}
+use Rattle.ent_wire.specs.Pieces.{Sends}
 use Rattle.ent_line.specs.Replies.{Answer, line_of}
 use Rattle.ent_line.specs.Runs.{Handling}
 

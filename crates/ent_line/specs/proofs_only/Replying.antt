@@ -7,8 +7,8 @@ use Rattle.ent_report.specs.Kept as desk
 use Rattle.ent_report.specs.World.{World}
 use Rattle.ent_table.specs.State.{State}
 use Rattle.ent_line.specs.Answering.{reply_view}
-use Rattle.ent_line.specs.Asked as asked
-use Rattle.ent_line.specs.Asked.{Question}
+use Rattle.ent_command.specs.Asked as asked
+use Rattle.ent_command.specs.Asked.{Question}
 use Rattle.ent_line.specs.Commands.{Told}
 use Rattle.ent_line.specs.Kept as kept
 use Rattle.ent_line.specs.Replies.{Answer, answered}

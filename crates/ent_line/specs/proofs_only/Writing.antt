@@ -1,12 +1,10 @@
 -- What is written, as JSON into a text that grows, as a text, or to a writer.
-use Rattle.std.specs.Prelude.{◌≡◌, ◌++◌, ℕ, List, map, IfOk, OnOk, Option, Result, String, string_bytes, ⊤}
+use Rattle.std.specs.Prelude.{◌≡◌, ◌++◌, List, map, IfOk, OnOk, Result, String, string_bytes}
 use Rattle.json.specs.Token.{Token}
 use Rattle.serde_json.specs.Data.{Data}
 use Rattle.serde_json.specs.Written.{compact_text}
 use Rattle.ent_json.specs.Text.{tokens_of}
 use Rattle.ent_json.specs.proofs_only.Text.{items_tokens_of}
-use Rattle.ent_line.specs.Pieces.{Sends}
-use Rattle.ent_line.specs.declared.fault.ServeFault.{ServeFault}
 
 -- tokens were written behind what a text had
 abbrev pub Adds : {A E : Type 0} → List Token → List Token → List Token → Result A E → Type 0
@@ -23,7 +21,3 @@ WritesEach told xs old new result = OnOk result (new ≡ old ++ items_tokens_of 
 -- a text spells a datum
 abbrev pub Spells : {Z E : Type 0} → Data → Result (String Z) E → Type 0
 Spells datum result = IfOk result (λ s. string_bytes s ≡ compact_text datum)
-
--- bytes were sent to a writer, or only a front of them
-abbrev pub SendsTo : {W : Type 0} → (W → Option (List ℕ)) → W → W → List ℕ → Result ⊤ ServeFault → Type 0
-SendsTo contents old new bytes result = Sends (contents old) (contents new) bytes result

@@ -3,7 +3,7 @@ use Rattle.json.specs.Lex.{lex, punctuate}
 use Rattle.json.specs.Print.{escape_byte, print_from}
 use Rattle.json.specs.Text.{content}
 use Rattle.json.specs.Token as token
-use Rattle.ent_line.specs.Cells.{decision_text}
+use Rattle.ent_command.specs.Wanted.{decision_text}
 use Rattle.ent_line.proofs.TextLemmas.{ends, joined}
 use Rattle.ent_line.proofs.cell.write_decided.Goals as goal
 

@@ -2,7 +2,8 @@ use Rattle.std.proofs.Common.{[], ◌∷◌, codes}
 use Rattle.json.specs.Token as token
 use Rattle.ent_json.specs.Text.{tokens_of}
 use Rattle.ent_profile.specs.Response.{given_written}
-use Rattle.ent_line.specs.Cells.{decision_text, list_data}
+use Rattle.ent_command.specs.Wanted.{decision_text}
+use Rattle.ent_line.specs.Cells.{list_data}
 use Rattle.ent_line.proofs.TextLemmas.{ends}
 use Rattle.ent_line.proofs.explaining.write_answer.Goals as goal
 

@@ -1,6 +1,6 @@
 use Rattle.std.proofs.Common.{[], ◌∷◌, codes}
 use Rattle.json.specs.Token as token
-use Rattle.ent_line.specs.Cells.{decision_text}
+use Rattle.ent_command.specs.Wanted.{decision_text}
 use Rattle.ent_line.proofs.TextLemmas.{ends}
 use Rattle.ent_line.proofs.faulting.write_fault.Goals as goal
 

@@ -1,8 +1,8 @@
 use Rattle.std.proofs.Common.{◌∙◌, Option, List, Bor, true, ap, map, option_map, sym}
 use Rattle.std.specs.Option.{option_map_or}
 use Rattle.serde_json.specs.View.{items_of}
-use Rattle.ent_line.specs.Wanted.{has_decision}
-use Rattle.ent_line.proofs.SelectingLemmas.{has_decision_in}
+use Rattle.ent_command.specs.Wanted.{has_decision}
+use Rattle.ent_command.proofs.SelectingLemmas.{has_decision_in}
 use Rattle.ent_line.proofs.selecting.has_decision.Goals as goal
 
 pub returns-in-Some : goal.returns-in-Some

@@ -1,5 +1,5 @@
 use Rattle.std.proofs.Common.{◌+◌, ◌≤◌, vec_len, vec_capacity}
-use Rattle.ent_line.specs.Lines.{line_limit}
+use Rattle.ent_wire.specs.Lines.{line_limit}
 use Rattle.ent_line.proofs.ServeLemmas.{Progress, ends}
 use Rattle.ent_line.proofs.serving.serve_within.Given as goal
 

@@ -1,9 +1,9 @@
 use Rattle.std.proofs.Common.{◌≡◌, ℕ, List, Option, Some, None, inl, inr, refl, subst}
 use Rattle.clap.specs.Walk.{Row}
 use Rattle.ent_program.specs.Ends.{End, EndsBy, IsEndOf, checked, compared, end_status, no_task, served, tested, written}
-use Rattle.ent_program.specs.Options.{IsTaskOf}
-use Rattle.ent_program.specs.declared.options.Task.{Task}
-use Rattle.ent_program.specs.declared.options.Task.TheVariants.{Check, Compare, Cover, Lines, Serve, Test}
+use Rattle.cli_words.specs.Options.{IsTaskOf}
+use Rattle.cli_words.specs.declared.options.Task.{Task}
+use Rattle.cli_words.specs.declared.options.Task.TheVariants.{Check, Compare, Cover, Lines, Serve, Test}
 use Rattle.ent_program.proofs.acting.act.Goals as goal
 
 -- a task of the words that is this one ended so
@@ -20,8 +20,8 @@ returns-in-Some-Serve g c =
 
 pub returns-in-Some-Check : goal.returns-in-Some-Check
 returns-in-Some-Check g c =
-    ended _ _ (Check c.in-Some-Check.asked) (checked c.in-Some-Check.asked.is_strict c.check_documents.ensures.0) _ c.in-Some-Check.ensures.task c.in-Some-Check.field-0-is refl
-    c.check_documents.ensures.1
+    ended _ _ (Check c.in-Some-Check.asked) (checked c.in-Some-Check.asked.is_strict c.check_asked.ensures.0) _ c.in-Some-Check.ensures.task c.in-Some-Check.field-0-is refl
+    c.check_asked.ensures.1
 
 pub returns-in-Some-Cover : goal.returns-in-Some-Cover
 returns-in-Some-Cover g c =

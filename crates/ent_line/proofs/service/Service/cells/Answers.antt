@@ -6,10 +6,10 @@ use Rattle.ent_table.specs.State.{table_of}
 use Rattle.ent_line.specs.Cells.{cells_reply}
 use Rattle.ent_line.specs.Commands.{cells_told}
 use Rattle.ent_line.specs.Replies.{answered, text}
-use Rattle.ent_line.specs.Wanted.{are_listed, is_asked}
+use Rattle.ent_command.specs.Wanted.{are_listed, is_asked}
 use Rattle.ent_report.specs.Desk.{Desked}
-use Rattle.ent_line.specs.declared.refusal.Refusal.TheVariants.{NotThere}
-use Rattle.ent_line.specs.proofs_only.CommandView.{wanted_view}
+use Rattle.ent_wire.specs.declared.refusal.Refusal.TheVariants.{NotThere}
+use Rattle.ent_command.specs.CommandView.{wanted_view}
 use Rattle.ent_line.specs.proofs_only.Selecting.{selects}
 use Rattle.ent_line.proofs.service.Service.cells.Goals as goal
 

@@ -1,0 +1,5 @@
+pub mod Checking
+pub mod Declaring
+pub mod Meant
+pub mod Sentences
+pub mod Statuses

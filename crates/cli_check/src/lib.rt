@@ -1,0 +1,24 @@
+//! `review check`: what is said of policies in files, each by itself and together, and of lines that set values.
+#![tactic(auto)]
+
+mod checking;
+mod declaring;
+mod documents;
+mod folders;
+mod found;
+mod known;
+mod meant;
+mod reading;
+mod sentences;
+mod set_lines;
+mod sizes;
+mod state_file;
+mod status;
+
+pub use checking::{FILE_LIMIT, FileFault, check_from};
+pub use declaring::DeclaredFault;
+pub use documents::check_documents;
+pub use sentences::{
+    declared_sentence, document_sentence, file_sentence, line_sentence, lines_alone_sentence,
+    no_files_sentence, state_sentence, undeclared_sentence,
+};

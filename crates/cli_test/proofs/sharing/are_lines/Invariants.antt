@@ -1,0 +1,7 @@
+use Rattle.std.proofs.Common.{◌≡◌, drop}
+use Rattle.cli_test.specs.proofs_only.Sharing.{are_lines}
+use Rattle.cli_test.proofs.sharing.are_lines.Given as goal
+
+-- each step so far is one
+abbrev pub invariant-loop-step : goal.invariant-loop-step
+invariant-loop-step l = are_lines (drop l.step-index l.steps) ≡ are_lines l.steps

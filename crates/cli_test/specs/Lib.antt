@@ -1,0 +1,5 @@
+pub mod Ends
+pub mod Listing
+pub mod Statuses
+pub mod Testing
+pub mod proofs_only

@@ -1,0 +1,4 @@
+pub mod Options
+pub mod Sentences
+pub mod Sources
+pub mod Statuses

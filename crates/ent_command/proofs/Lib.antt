@@ -1,0 +1,4 @@
+pub mod ChangeLemmas
+pub mod CommandWords
+pub mod ReadLemmas
+pub mod SelectingLemmas

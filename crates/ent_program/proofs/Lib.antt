@@ -1,9 +1,0 @@
-pub mod Compared
-pub mod Differences
-pub mod Headings
-pub mod Telling
-pub mod Rows
-pub mod Shared
-pub mod Starting
-pub mod Tests
-pub mod Verdicts

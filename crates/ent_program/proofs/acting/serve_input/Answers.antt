@@ -1,9 +1,0 @@
-use Rattle.std.proofs.Common.{Err}
-use Rattle.ent_line.specs.declared.fault.ServeFault.TheVariants.{Memory}
-use Rattle.ent_program.proofs.acting.serve_input.Goals as goal
-
-pub returns-in_default : goal.returns-in_default
-returns-in_default g c = (Err Memory, c.status_of.ensures)
-
-pub returns-in_default-new : goal.returns-in_default-new
-returns-in_default-new g c = (Err Memory, c.status_of-in_default-new.ensures)

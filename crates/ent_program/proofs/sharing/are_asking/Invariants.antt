@@ -1,7 +1,0 @@
-use Rattle.std.proofs.Common.{◌≡◌, drop}
-use Rattle.ent_program.specs.proofs_only.Sharing.{are_asking}
-use Rattle.ent_program.proofs.sharing.are_asking.Given as goal
-
--- each step so far is one
-abbrev pub invariant-loop-step : goal.invariant-loop-step
-invariant-loop-step l = are_asking (drop l.step-index l.steps) ≡ are_asking l.steps
