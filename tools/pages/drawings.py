@@ -97,8 +97,11 @@ class Drawing:
         self.known = {}
         self.seen = set()
         self.root = self.only(root)
-        self.lines = []
+        self.rows = []
         self.draw(self.root, '', '')
+        width = max(len(name) for name, _, _ in self.rows) + 2
+        self.lines = [self.line(f'{name:<{width}}{function.crate:<16}', function, again)
+                      for name, function, again in self.rows]
 
     def only(self, name):
         found = [function for function in self.sources.by_name[name.split('.')[-1]]
@@ -129,10 +132,8 @@ class Drawing:
         return list(found)
 
     def draw(self, function, start, below):
-        name = start + label(function)
         again = function in self.seen
-        text = f'{name:<36}{function.crate:<16}'
-        self.lines.append((text + ('(above)' if again else words_of(function, WIDTH - len(text)))).rstrip())
+        self.rows.append((start + label(function), function, again))
         if again:
             return
         self.seen.add(function)
@@ -140,6 +141,10 @@ class Drawing:
         for number, other in enumerate(others):
             last = number == len(others) - 1
             self.draw(other, below + ('└ ' if last else '├ '), below + ('  ' if last else '│ '))
+
+    @staticmethod
+    def line(text, function, again):
+        return (text + ('(above)' if again else words_of(function, WIDTH - len(text)))).rstrip()
 
     def faults(self):
         drawn = {label(function) for function in self.seen}
