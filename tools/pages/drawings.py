@@ -23,8 +23,9 @@ LISTED = re.compile(r'^- \[`(\w+)`\]\(\.\./crates/', re.M)
 WIDTH = 116
 # What is said of a function where its doc comment says it only beside another.
 WORDS = {
-    'Desk.ask_shared': 'The same',
-    'Review.ask_shared': 'Answers any request, listed or not',
+    'Desk.ask_shared': 'Answers a request, and lends the answer',
+    'Service.handle': 'Answers a line, and counts evaluations',
+    'Review.ask_shared': 'Answers any request, listed or not, always evaluated',
     'Service.mark': 'Marks the present table for a session',
     'Service.ask': 'Answers `ask`',
     'Service.who': 'Answers `who`',
@@ -32,6 +33,9 @@ WORDS = {
     'joined.join': 'Joins it, element by element',
     'Evaluator.evaluate': 'Evaluates the request of a cell',
     'Evaluator.answer': 'Answers any request',
+    'ReviewParts.exchange_and_tell': 'Makes an exchange, and tells which look-ups it changes',
+    'Live.exchange': 'Exchanges one thing of what is held',
+    'Store.touched': 'Finds the cells that read a changed key of a look-up',
     'Evaluator.exchange': 'Forgets what rests on it, then exchanges it',
     'ReviewParts.add_policy': 'Stores a document where none has its key',
     'ReviewParts.set_attribute': 'Sets the values of a row',
@@ -39,6 +43,8 @@ WORDS = {
     'Memory.sign': 'Finds what each test comes to: known, or evaluated alone',
     'Memory.told': 'Looks for a case whose tests came to the same',
     'Memory.joined': 'Joins an answer of what the tests came to',
+    'EvaluatorParts.evaluate_untold': 'Joins the answer of results, or else evaluates the request',
+    'names.names_in': 'Finds three names, where a request has nothing else',
     'Memory.put': 'Remembers it by what its tests came to',
     'Pdp.evaluate_numbered': 'Evaluates the request by a walk over the policy',
     'Live.settle': 'Makes right again the cells that read a changed key',
