@@ -70,7 +70,7 @@ impl Refusal {
     /// The sub-code that is told beside the number, of a document.
     ///
     /// Its contract is an equation.
-    pub(crate) fn sub_code(self) -> Option<u8>
+    pub fn sub_code(self) -> Option<u8>
         ensures { result ≡ sub_of self }
     {
         match self {
