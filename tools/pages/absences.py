@@ -170,7 +170,12 @@ def unseen():
 UNCALLED = ['ent_polform write_document', 'ent_polform write_value', 'ent_profile write_given',
             'ent_profile write_response', 'ent_index Index::cells_of', 'ent_index Index::forget',
             'ent_dump dump_lines_within', 'ent_line serve', 'ent_line serve_within', 'cli_check check_from',
-            'law_split merge_who', 'law_split merge_by_rule', 'law_split sum_counts', 'law_split sum_changes']
+            'law_split merge_who', 'law_split merge_by_rule', 'law_split sum_counts', 'law_split sum_changes',
+            # What is written, and when, is promised of these: above them stand only files and streams, of which no
+            # contract knows.
+            'cli_serve serve_from', 'cli_test list_tests', 'cli_test send_junit', 'cli_compare compare_from',
+            # The trials alone call these.
+            'cli_check file_sentence', 'cli_serve lines_status']
 
 
 def given_out(crate):

@@ -18,7 +18,4 @@ mod status;
 pub use checking::{FILE_LIMIT, FileFault, check_from};
 pub use declaring::DeclaredFault;
 pub use documents::check_documents;
-pub use sentences::{
-    declared_sentence, document_sentence, file_sentence, line_sentence, lines_alone_sentence,
-    no_files_sentence, state_sentence, undeclared_sentence,
-};
+pub use sentences::file_sentence;

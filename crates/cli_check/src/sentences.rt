@@ -12,7 +12,7 @@ use ent_policy::DocFault;
 /// What is said of the first fault of a document in a file.
 ///
 /// Its contract is an equation.
-pub fn document_sentence(fault: DocFault) -> &'static str
+pub(crate) fn document_sentence(fault: DocFault) -> &'static str
     ensures { result.now ≡ document_sentence fault }
 {
     match fault {
@@ -57,7 +57,7 @@ pub fn file_sentence(fault: FileFault) -> &'static str
 /// What is said of a document that asks for an attribute, or compares with a value, which isn't declared.
 ///
 /// Its contract is an equation.
-pub fn undeclared_sentence() -> &'static str
+pub(crate) fn undeclared_sentence() -> &'static str
     ensures { result.now ≡ undeclared_sentence }
 {
     "review: the document asks for an attribute, or compares with a value, that isn't declared"
@@ -66,7 +66,7 @@ pub fn undeclared_sentence() -> &'static str
 /// What is said of a file of declared attributes that can't be used.
 ///
 /// Its contract is an equation.
-pub fn declared_sentence(fault: DeclaredFault) -> &'static str
+pub(crate) fn declared_sentence(fault: DeclaredFault) -> &'static str
     ensures { result.now ≡ declared_sentence fault }
 {
     match fault {
@@ -79,7 +79,7 @@ pub fn declared_sentence(fault: DeclaredFault) -> &'static str
 /// What is said of a file of a state that can't be used.
 ///
 /// Its contract is an equation.
-pub fn state_sentence() -> &'static str
+pub(crate) fn state_sentence() -> &'static str
     ensures { result.now ≡ state_sentence }
 {
     "review: the file of the state hasn't the lines of a dump"
@@ -88,7 +88,7 @@ pub fn state_sentence() -> &'static str
 /// What is said of lines with which something is wrong.
 ///
 /// Its contract is an equation.
-pub fn line_sentence() -> &'static str
+pub(crate) fn line_sentence() -> &'static str
     ensures { result.now ≡ line_sentence }
 {
     "review: something is wrong with a line"
@@ -97,7 +97,7 @@ pub fn line_sentence() -> &'static str
 /// What is said where lines are named, and no attributes.
 ///
 /// Its contract is an equation.
-pub fn lines_alone_sentence() -> &'static str
+pub(crate) fn lines_alone_sentence() -> &'static str
     ensures { result.now ≡ lines_alone_sentence }
 {
     "review: --lines compares with the attributes of --attributes"
@@ -106,7 +106,7 @@ pub fn lines_alone_sentence() -> &'static str
 /// What is said where the folders that are named have no documents.
 ///
 /// Its contract is an equation.
-pub fn no_files_sentence() -> &'static str
+pub(crate) fn no_files_sentence() -> &'static str
     ensures { result.now ≡ no_files_sentence }
 {
     "review: no file there ends in .json"

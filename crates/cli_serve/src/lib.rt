@@ -13,6 +13,5 @@ mod watching;
 pub use limiting::given_limits;
 pub use replying::{MODULES, few, replies_to};
 pub use running::serve_from;
-pub use sentences::{lines_sentence, terminal_sentence};
-pub use status::{lines_status, serve_status};
+pub use status::lines_status;
 pub use streams::{serve_input, write_lines};

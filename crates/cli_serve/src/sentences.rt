@@ -10,7 +10,7 @@ use ent_wire::ServeFault;
 /// What is said where the lines of a dump weren't written, or not all.
 ///
 /// Its contract is an equation.
-pub fn lines_sentence(fault: LinesFault) -> &'static str
+pub(crate) fn lines_sentence(fault: LinesFault) -> &'static str
     ensures { result.now ≡ lines_sentence fault }
 {
     match fault {
@@ -24,7 +24,7 @@ pub fn lines_sentence(fault: LinesFault) -> &'static str
 /// What somebody is told who serves lines that are typed at a terminal.
 ///
 /// Its contract is an equation.
-pub fn terminal_sentence() -> &'static str
+pub(crate) fn terminal_sentence() -> &'static str
     ensures { result.now ≡ terminal_sentence }
 {
     "review: one command a line, as docs/COMMANDS.md says; Ctrl-D at the beginning of a line ends; a terminal cuts lines at 4,095 bytes"

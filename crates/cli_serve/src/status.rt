@@ -11,7 +11,7 @@ use ent_wire::ServeFault;
 /// The exit status of serving; a fault is told on standard error.
 ///
 /// Its contract is an equation.
-pub fn serve_status(rt: &impl Eprint, served: Result<u64, ServeFault>) -> u8
+pub(crate) fn serve_status(rt: &impl Eprint, served: Result<u64, ServeFault>) -> u8
     ensures { result ≡ serve_status served }
 {
     match served {

@@ -13,7 +13,6 @@ mod untested;
 
 pub use junit::send_junit;
 pub use listing::list_tests;
-pub use status::test_status;
 pub use tally::{Tally, send_tally};
 pub use testing::{TestPlan, test_from};
 pub use trying::run_tests;

@@ -11,7 +11,7 @@ use ent_wire::ServeFault;
 /// told on standard error.
 ///
 /// Its contract is an equation.
-pub fn test_status(rt: &impl Eprint, tested: Result<Tally, ServeFault>) -> u8
+pub(crate) fn test_status(rt: &impl Eprint, tested: Result<Tally, ServeFault>) -> u8
     ensures { result ≡ test_status tested }
 {
     match tested {

@@ -22,7 +22,7 @@ impl Tally {
     /// No test.
     ///
     /// Its contract is an equation.
-    pub fn none() -> Tally
+    pub(crate) fn none() -> Tally
         ensures passed { result.passed ≡ 0 }
         ensures failed { result.failed ≡ 0 }
     {
@@ -35,7 +35,7 @@ impl Tally {
     /// One test, which failed.
     ///
     /// Its contract is an equation.
-    pub fn one_failed() -> Tally
+    pub(crate) fn one_failed() -> Tally
         ensures { result ≡ record { passed = 0; failed = 1 } }
     {
         Tally {
@@ -61,7 +61,7 @@ impl Tally {
     /// The tests of both, each number at most `u64::MAX`.
     ///
     /// Its contract is an equation.
-    pub fn and(self, other: Tally) -> Tally
+    pub(crate) fn and(self, other: Tally) -> Tally
         ensures passed { result.passed ≡ min (self.passed + other.passed) (2 ^ 64 - 1) }
         ensures failed { result.failed ≡ min (self.failed + other.failed) (2 ^ 64 - 1) }
     {

@@ -21,7 +21,7 @@ pub use asked_tests::AskedTests;
 pub use misused::{pass_check, pass_states, pass_tests};
 pub use options::{Modules, Task, task_of};
 pub use reading::{read_fault, read_source, tell_cause, tell_unread};
-pub use sentences::{fault_sentence, input_twice_sentence, junit_sentence, words_sentence};
+pub use sentences::fault_sentence;
 pub use sources::{Shown, Source};
 pub use status::{
     BROKEN, NO_MEMORY, OKAY, REFUSED, Unmet, fault_status, limit_status, status_of, tell,

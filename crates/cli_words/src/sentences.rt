@@ -22,7 +22,7 @@ pub fn fault_sentence(fault: ServeFault) -> &'static str
 /// What is said where the words of the command line can't be had.
 ///
 /// Its contract is an equation.
-pub fn words_sentence(fault: WordsFault) -> &'static str
+pub(crate) fn words_sentence(fault: WordsFault) -> &'static str
     ensures { result.now ≡ words_sentence fault }
 {
     match fault {
@@ -34,7 +34,7 @@ pub fn words_sentence(fault: WordsFault) -> &'static str
 /// What is said where standard input is named more than once.
 ///
 /// Its contract is an equation.
-pub fn input_twice_sentence() -> &'static str
+pub(crate) fn input_twice_sentence() -> &'static str
     ensures { result.now ≡ input_twice_sentence }
 {
     "review: standard input is named more than once"
@@ -43,7 +43,7 @@ pub fn input_twice_sentence() -> &'static str
 /// What is said where a file for JUnit XML can't be meant.
 ///
 /// Its contract is an equation.
-pub fn junit_sentence() -> &'static str
+pub(crate) fn junit_sentence() -> &'static str
     ensures { result.now ≡ junit_sentence }
 {
     "review: --junit wants a file of its own, and no --list"

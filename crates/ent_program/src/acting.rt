@@ -47,7 +47,7 @@ fn check_asked<R: Files + Input + Print + Eprint + AllocGlobal>(
     rt: &R,
     asked: AskedCheck<'_, '_>,
 ) -> u8
-    ensures { (checked : Result Found Unmet) × (result ≡ checked_status asked.entry.is_strict checked) }
+    ensures { (checked : Result FaultCount Unmet) × (result ≡ checked_status asked.entry.is_strict checked) }
 {
     let Ok(commands) = command_words(rt.alloc()) else {
         return status_of(rt, ServeFault::Memory);
