@@ -21,11 +21,7 @@ cd "$aside/front"
 # a page of another site is not, bodies with keys and who is written down, the commands that the front knows, damage
 # of a folder, the time of a start, what listeners take, askers, edits that are made behind a serial or whole, requests
 # that are translated, AuthZEN, Kubernetes, kept decisions, who may what, a log of several fronts, what edits changed,
-# earlier states, the chain, and what proxies ask.
-# that are translated, AuthZEN, kept decisions, who may what, a log of several fronts, what edits changed, earlier states,
-# the chain, what proxies ask, and campaigns.
-# that are translated, AuthZEN, Kubernetes, kept decisions, who may what, a log of several fronts, what edits changed, earlier states,
-# the chain, and sources.
+# earlier states, the chain, what proxies ask, campaigns, and sources.
 grep -e "${2:-}" >"$aside/rows" <<'ROWS'
 folder/writing.go . TestOrder s/^\t\terr = f\.sync(f\.current)$/\t\terr = nil/
 folder/writing.go . TestOrder s/^\t\terr = file\.Sync()$/\t\terr = nil/
