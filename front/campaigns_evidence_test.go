@@ -113,6 +113,15 @@ func changeEvidence(t *testing.T, content, name string, words ...string) {
 		}
 		return strings.Join(changed, "\n")
 	}
+	beside := func(was, is string) string { // in all but the records
+		changed := append([]string(nil), lines...)
+		for i, l := range changed {
+			if !strings.HasPrefix(l, `{"record"`) {
+				changed[i] = strings.ReplaceAll(l, was, is)
+			}
+		}
+		return strings.Join(changed, "\n")
+	}
 	item := at(`{"item"`, `"signed"`)
 	for what, changed := range map[string]string{
 		"a record is dropped":         without(at(`{"record"`, `"do":"campaign.keep"`)),
@@ -127,6 +136,7 @@ func changeEvidence(t *testing.T, content, name string, words ...string) {
 		"what fell stands":            with(at(`{"item"`, `"by":{"serial"`), `"state":"\w+"`, `"state":"kept"`),
 		"a sign-off is dropped":       with(item, `,"signed":\{[^}]*\}`, ``),
 		"an act's cells":              with(at(`{"act"`, `"hana"`), `"hana"`, `"ada"`),
+		"an act's cells and items":    beside(`"hana"`, `"hanna"`),
 		"an act is dropped":           without(at(`{"act"`, ``)),
 		"items are exchanged":         with(item, `"item":(\d+),`, `"item":1$1,`),
 		"the head is another's":       with(at(`{"head"`, ``), `"chain":"..`, `"chain":"00`),
