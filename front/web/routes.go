@@ -44,8 +44,11 @@ func (s *Server) routes() []route {
 	all = append(all, s.campaignRoutes()...)
 	for _, q := range questions {
 		serve := s.asking(q)
-		if q.do == "changes" {
+		switch q.do {
+		case "changes":
 			serve = s.changedSince(q)
+		case "by_rule":
+			serve = s.byRule(q)
 		}
 		all = append(all, route{http.MethodGet, q.path, serve})
 	}
