@@ -9,14 +9,14 @@ import (
 	"strings"
 
 	"review-front/source/form"
-	"review-front/source/records"
 	"review-front/source/served"
+	"review-front/source/values"
 )
 
 // Given is a source with what was read of it, by list.
 type Given struct {
 	Source   *form.Source
-	Entities map[string]map[string]*records.Entity
+	Entities map[string]map[string]*values.Entity
 }
 
 // What is what becomes of a name.
@@ -197,7 +197,7 @@ func (p *Plan) one(state *served.State, entity served.Entity, stays bool) *Chang
 		return nil
 	}
 	change := &Change{Entity: entity, What: Set}
-	var wanted *records.Entity
+	var wanted *values.Entity
 	if has {
 		wanted = p.Given.Entities[entity.List][entity.Name]
 	} else {
@@ -221,7 +221,7 @@ func (p *Plan) marked(kind *form.Kind, rows []served.Row) bool {
 }
 
 // differing are the rows of a source that are to be others: of a name that it has, or hasn't any more.
-func differing(s *form.Source, kind *form.Kind, wanted *records.Entity, there []served.Row) []Row {
+func differing(s *form.Source, kind *form.Kind, wanted *values.Entity, there []served.Row) []Row {
 	var changed []Row
 	for _, attribute := range kind.Owned() {
 		var values []string

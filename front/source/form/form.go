@@ -264,15 +264,22 @@ func together(sources []*Source) error {
 	return nil
 }
 
+// Given is a source whose people somebody else reads, or says what is wrong with it.
+func Given(name string, module int, issuer string, people *Kind) (*Source, error) {
+	people.List = "people"
+	s := &Source{Name: name, Module: module, Issuer: issuer, People: people}
+	if err := s.wrongSelf(); err != nil {
+		return nil, err
+	}
+	return s, people.wrongRows()
+}
+
 // wrong says what is wrong with a file.
 func (s *Source) wrong() error {
+	if err := s.wrongSelf(); err != nil {
+		return err
+	}
 	switch {
-	case s.Name == "" || len(MarkBegins+s.Name) > mostBytes || strings.ContainsAny(s.Name, "\r\n"):
-		return errors.New(`"source" is the name of the source, of a few letters`)
-	case s.Module < 0 || s.Module >= mostModules:
-		return fmt.Errorf("module %d isn't one of 0 to 3", s.Module)
-	case len(s.Issuer) > mostBytes:
-		return errors.New("the issuer is longer than 256 bytes")
 	case (s.Certificate == "") != (s.Key == ""):
 		return errors.New(`"certificate" and "key" go together`)
 	case len(s.Kinds()) == 0:
@@ -282,6 +289,19 @@ func (s *Source) wrong() error {
 		if err := kind.wrong(); err != nil {
 			return fmt.Errorf("%s: %w", kind.List, err)
 		}
+	}
+	return nil
+}
+
+// wrongSelf says what is wrong with its name, its module and its issuer.
+func (s *Source) wrongSelf() error {
+	switch {
+	case s.Name == "" || len(MarkBegins+s.Name) > mostBytes || strings.ContainsAny(s.Name, "\r\n"):
+		return errors.New(`"source" is the name of the source, of a few letters`)
+	case s.Module < 0 || s.Module >= mostModules:
+		return fmt.Errorf("module %d isn't one of 0 to 3", s.Module)
+	case len(s.Issuer) > mostBytes:
+		return errors.New("the issuer is longer than 256 bytes")
 	}
 	return nil
 }

@@ -49,9 +49,18 @@ func (k *Kind) wrong() error {
 			from++
 		}
 	}
-	switch {
-	case from != 1:
+	if from != 1 {
 		return errors.New(`one of "csv", "lines", "ldap" and "postgres" says where it comes from`)
+	}
+	if err := k.wrongRows(); err != nil {
+		return err
+	}
+	return k.wrongFrom()
+}
+
+// wrongRows says what is wrong with its name and its attributes.
+func (k *Kind) wrongRows() error {
+	switch {
 	case k.Name.From == "":
 		return errors.New(`"name" says which field is the name`)
 	case len(k.Owned()) > mostAttributes:
@@ -81,7 +90,7 @@ func (k *Kind) wrong() error {
 			k.Attributes[name] = attribute
 		}
 	}
-	return k.wrongFrom()
+	return nil
 }
 
 // wrong says what is wrong with an attribute.

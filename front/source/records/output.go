@@ -13,6 +13,7 @@ import (
 	"unicode/utf8"
 
 	"review-front/source/form"
+	"review-front/source/values"
 )
 
 // mark is what some programs write before a text in UTF-8.
@@ -35,7 +36,7 @@ func read(ctx context.Context, s *form.Source, from form.Output) ([]byte, string
 	}
 	content = bytes.TrimPrefix(content, mark)
 	if at := invalid(content); at > 0 {
-		return nil, name, fmt.Errorf("%s:%d: %w", name, at, errNoUTF8)
+		return nil, name, fmt.Errorf("%s:%d: %w", name, at, values.ErrNoUTF8)
 	}
 	if len(content) > 0 && content[len(content)-1] != '\n' {
 		return nil, name, fmt.Errorf("%s:%d: the last line has no end: half a file isn't taken",

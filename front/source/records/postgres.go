@@ -13,6 +13,7 @@ import (
 	"github.com/lib/pq"
 
 	"review-front/source/form"
+	"review-front/source/values"
 )
 
 // WithPostgres says whether databases can be asked.
@@ -133,9 +134,9 @@ func columnTexts(value any, kind string) ([]string, error) {
 func momentOf(at time.Time, kind string) string {
 	switch kind {
 	case "DATE":
-		return at.Format(layouts["date"])
+		return at.Format(values.Layouts["date"])
 	case "TIME", "TIMETZ":
-		return at.UTC().Format(layouts["time"])
+		return at.UTC().Format(values.Layouts["time"])
 	}
-	return at.UTC().Format(layouts["dateTime"])
+	return at.UTC().Format(values.Layouts["dateTime"])
 }

@@ -1,4 +1,4 @@
-package records
+package values
 
 import (
 	"testing"

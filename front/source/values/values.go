@@ -1,4 +1,5 @@
-package records
+// Package values makes names and rows of records, in the one spelling that the program has for each value.
+package values
 
 import (
 	"errors"
@@ -41,8 +42,8 @@ func Value(written string, of form.Attribute) (string, error) {
 	return cased(written, of.Case), nil
 }
 
-// layouts is how the program writes a day, a moment and a time.
-var layouts = map[string]string{"date": "2006-01-02", "dateTime": "2006-01-02T15:04:05", "time": "15:04:05"}
+// Layouts are how the program writes a day, a moment and a time.
+var Layouts = map[string]string{"date": "2006-01-02", "dateTime": "2006-01-02T15:04:05", "time": "15:04:05"}
 
 // moment reads a day, a moment or a time by its form. A moment with an offset is that of UTC.
 func moment(written string, of form.Attribute) (string, error) {
@@ -52,13 +53,13 @@ func moment(written string, of form.Attribute) (string, error) {
 		if err != nil || at.Year() < 1 || at.Year() > 9999 {
 			return "", fmt.Errorf("%.40q is no number of seconds since 1970", written)
 		}
-		return at.Format(layouts[of.Type]), nil
+		return at.Format(Layouts[of.Type]), nil
 	}
 	for _, layout := range form.Forms[of.Type][of.Form] {
 		at, err := time.Parse(layout, written)
 		year := at.UTC().Year()
 		if err == nil && at.Nanosecond() == 0 && (of.Type == "time" || year > 0 && year < 10_000) {
-			return at.UTC().Format(layouts[of.Type]), nil
+			return at.UTC().Format(Layouts[of.Type]), nil
 		}
 	}
 	if of.Form == "" {
@@ -104,4 +105,5 @@ func cased(written, how string) string {
 	return written
 }
 
-var errNoUTF8 = errors.New("it isn't UTF-8")
+// ErrNoUTF8 says that a text isn't UTF-8.
+var ErrNoUTF8 = errors.New("it isn't UTF-8")
