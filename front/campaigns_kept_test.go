@@ -24,7 +24,7 @@ func TestCampaignKept(t *testing.T) {
 	if got := f.as(t, "boss", http.MethodPost, "/campaigns", opening("q4", "rita", "")); got.status != 200 {
 		t.Fatal(got)
 	}
-	if format := formatOf(t, path); format != folder.Format {
+	if format := formatOf(t, path); format != 4 {
 		t.Errorf("a journal with a campaign has the format %d", format)
 	}
 	f.signAll(t, "rita", "q4", "state=open&count=5")

@@ -36,6 +36,9 @@ type options struct {
 	hosts            list
 	authzen          string
 	check            string
+	scim             string
+	scimAtMost       string
+	scimWithin       time.Duration
 	decisions        string
 	decisionsSize    int64
 	byHeader         string
@@ -159,6 +162,11 @@ func (o *options) name(set *flag.FlagSet) {
 		"paths are answered")
 	set.StringVar(&o.check, "check", "", "a `file` that says how a proxy's request becomes one of XACML; with it proxies are "+
 		"answered at /check")
+	set.StringVar(&o.scim, "scim", "", "a `file` that says which names and rows users of SCIM have; with it SCIM's paths are "+
+		"answered")
+	set.StringVar(&o.scimAtMost, "scim-at-most", "", "how many of a hundred people may go by SCIM within --scim-within, as "+
+		"`5%`, before provisioning is held; else as many as there are")
+	set.DurationVar(&o.scimWithin, "scim-within", time.Hour, "the while within which --scim-at-most counts")
 	set.StringVar(&o.decisions, "decisions", "", "a `folder` into which each decision is written, which is made if it isn't there")
 	set.Int64Var(&o.decisionsSize, "decisions-size", 64<<20, "how many bytes a file of decisions has before another begins")
 	set.StringVar(&o.byHeader, "by-header", "", "the `field` of a head that says who asks, if a server before the front sets it")
@@ -246,6 +254,10 @@ func (o options) wrong(rest []string) string {
 		return "--module-names has a name for each module of attributes at most, none of them empty or twice"
 	case o.limits.Wrong() != "":
 		return o.limits.Wrong()
+	case o.scim == "" && o.scimAtMost != "":
+		return "--scim-at-most needs --scim"
+	case o.scimWithin < time.Second:
+		return "--scim-within is at least 1s"
 	case o.queue < 1 || o.connections < 1 || o.each < 0:
 		return "--queue and --connections are at least 1, and --connections-each at least 0"
 	case o.decisionsSize < 1:

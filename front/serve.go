@@ -62,6 +62,9 @@ func serve(ctx context.Context, again <-chan os.Signal, o options, log *logs.Log
 	}
 	meter := measure.New()
 	keeping := o.keeping(held, edits, kept, log, meter)
+	if keeping.Provision, keeping.AtMost, err = o.provisioning(); err != nil {
+		return err
+	}
 	signed, err := o.heads(held, log)
 	if err != nil {
 		return err
@@ -69,6 +72,7 @@ func serve(ctx context.Context, again <-chan os.Signal, o options, log *logs.Log
 	keeping.Heads = signed
 	k := keeper.New(keeping)
 	watch(meter, k)
+	watchScim(meter, k)
 	mapping, book, err := o.beside(log, meter)
 	if err != nil {
 		return err

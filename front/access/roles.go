@@ -22,8 +22,10 @@ var Roles = map[string][]string{
 		"campaign.show", "campaign.items", "campaign.all", "campaign.tasks", "campaign.open", "campaign.close",
 		"campaign.evidence",
 	},
-	"operate": {"dump", "day.set", "moment.set", "state", "limits", "work", "format"},
-	Metrics:   {Metrics},
+	"provision": {"scim.read", "scim.write"},
+	"release":   {"scim.hold", "scim.let"},
+	"operate":   {"dump", "day.set", "moment.set", "state", "limits", "work", "format"},
+	Metrics:     {Metrics},
 }
 
 // commands are all that a role has.

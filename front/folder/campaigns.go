@@ -52,7 +52,7 @@ func (f *Folder) EachCampaign(call func(Entry) error) error {
 		if err != nil {
 			return err
 		}
-		if head.Format < campaignFrom {
+		if !head.hasCampaigns() {
 			continue
 		}
 		j, err := walk(f.path, number, f.most(number), func(_ *journal, entry Entry, _ Place) error {

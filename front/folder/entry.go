@@ -14,13 +14,15 @@ import (
 
 // Format is the version of what stands in the files of a folder. Files of the first one are read too: their journals
 // don't follow each other, and don't tell what was known to be on disk. From the third on records are a chain. Those of
-// the fourth have records of campaigns between edits; a folder without any has files of the third.
+// the fourth have records of campaigns between edits, and those of the fifth records of SCIM; a folder without any has
+// files of the third.
 const (
-	Format       = 4
-	first        = 1
-	linkedFrom   = 2
-	chainedFrom  = 3
-	campaignFrom = 4
+	Format        = 5
+	first         = 1
+	linkedFrom    = 2
+	chainedFrom   = 3
+	campaignFrom  = 4
+	provisionFrom = 5
 )
 
 // Head is the first record of each file: what it is, and of which program.
@@ -34,6 +36,8 @@ type Head struct {
 	PolicyModules    int       `json:"policy_modules"`
 	// Limits are those of the program; files of before there were any have none, and are of a standard one.
 	Limits limits.Limits `json:"limits"`
+	// Campaigns says, of a journal of the fifth format, that it may have records of campaigns, too.
+	Campaigns bool `json:"campaigns,omitempty"`
 	// Stream is of which stream the edits are, whose sequences are their serials; without one each serial follows the
 	// last.
 	Stream string `json:"stream,omitempty"`
@@ -41,6 +45,8 @@ type Head struct {
 	After uint64 `json:"after"`
 	// Lines is, of a snapshot, how many lines it has.
 	Lines int `json:"lines,omitempty"`
+	// Records is, of a snapshot, how many lines of SCIM's resources follow these.
+	Records int `json:"records,omitempty"`
 	// Before is, of a journal, the one before it, and of a snapshot the journal that it was made of.
 	Before *Part `json:"before,omitempty"`
 	// Chain is, of a journal, what the first record goes on from, and of a snapshot that at its serial.
@@ -82,21 +88,39 @@ type Entry struct {
 	raw   []byte
 }
 
-// campaigning begins the line of a record of a campaign, which is no edit: no program is told it.
-var campaigning = []byte(`{"do":"campaign.`)
+// campaigning begins the line of a record of a campaign, which is no edit: no program is told it. So does provisioning of
+// a record of SCIM.
+var (
+	campaigning  = []byte(`{"do":"campaign.`)
+	provisioning = []byte(`{"do":"scim.`)
+)
 
 // IsCampaign says whether this is a record of a campaign, and no edit.
 func (e Entry) IsCampaign() bool { return bytes.HasPrefix(e.Line, campaigning) }
 
-// haveCampaign says whether one of some entries is a record of a campaign.
-func haveCampaign(entries []Entry) bool {
+// IsProvision says whether this is a record of SCIM, and no edit.
+func (e Entry) IsProvision() bool { return bytes.HasPrefix(e.Line, provisioning) }
+
+// IsRecord says whether this is a record that no program is told.
+func (e Entry) IsRecord() bool { return e.IsCampaign() || e.IsProvision() }
+
+// formatOf is the format that a journal with some entries has at least, and whether a campaign is among them.
+func formatOf(entries []Entry) (format int, campaigns bool) {
+	format = chainedFrom
 	for _, entry := range entries {
-		if entry.IsCampaign() {
-			return true
+		campaigns = campaigns || entry.IsCampaign()
+		if entry.IsProvision() {
+			format = provisionFrom
 		}
 	}
-	return false
+	if campaigns && format < campaignFrom {
+		format = campaignFrom
+	}
+	return format, campaigns
 }
+
+// hasCampaigns says whether a journal may have records of campaigns.
+func (h Head) hasCampaigns() bool { return h.Format == campaignFrom || h.Campaigns }
 
 // written is an entry as its record has it.
 type written struct {

@@ -60,7 +60,8 @@ type Folder struct {
 	chained bool   // whether each journal that stood has its predecessor's checksum
 	chain   Chain  // what it is behind the last edit
 	links   bool   // whether it is known: the newest journal has one, or there is none
-	format  int    // that of journals that are begun, once there was a campaign; else less
+	format  int    // that of journals that are begun, once there was a record that is no edit; else less
+	reviews bool   // whether they may have records of campaigns
 	last    uint64 // the serial of the last edit that is on disk
 	daily   int    // of how many last days a snapshot stays
 	broken  error  // why nothing can be written, if so

@@ -59,7 +59,7 @@ func (f *Folder) recover(s *survey, since uint64) (*Torn, error) {
 	}
 	f.last, f.before, f.stream, f.limits = j.last, j.head.Before, j.head.Stream, j.head.Limits
 	f.chain, f.links = j.chain, j.head.Format >= chainedFrom
-	f.format = j.head.Format
+	f.format, f.reviews = j.head.Format, j.head.hasCampaigns()
 	if j.last >= j.number {
 		f.before = j.part()
 	}

@@ -14,6 +14,8 @@ import (
 type Snapshot struct {
 	Serial uint64
 	Lines  [][]byte
+	// Records are the lines of SCIM's resources at that serial, which no program is told.
+	Records [][]byte
 }
 
 // Snapshots are the serials for which there is a snapshot, in their order.
@@ -90,10 +92,14 @@ func (f *Folder) read(serial uint64) (*Snapshot, Head, error) {
 func readSnapshot(records *frame.Reader) (*Snapshot, Head, error) {
 	head, err := readHead(records, "snapshot")
 	snapshot := &Snapshot{Serial: head.After}
-	for err == nil && len(snapshot.Lines) < head.Lines {
+	for err == nil && len(snapshot.Lines)+len(snapshot.Records) < head.Lines+head.Records {
 		var line []byte
-		if line, err = records.Next(); err == nil {
+		switch line, err = records.Next(); {
+		case err != nil:
+		case len(snapshot.Lines) < head.Lines:
 			snapshot.Lines = append(snapshot.Lines, line)
+		default:
+			snapshot.Records = append(snapshot.Records, line)
 		}
 	}
 	if err == nil {
@@ -122,10 +128,13 @@ func (f *Folder) Keep(snapshot *Snapshot) error {
 		chain = f.begunAt(snapshot.Serial)
 	}
 	head.Kind, head.After, head.Lines, head.Before = "snapshot", snapshot.Serial, len(snapshot.Lines), part
-	head.Chain, head.Older = chain, nil
+	head.Chain, head.Older, head.Records, head.Format = chain, nil, len(snapshot.Records), chainedFrom
+	if head.Campaigns = false; head.Records > 0 {
+		head.Format = provisionFrom
+	}
 	name := f.snapshot(snapshot.Serial)
 	aside := name + asideName
-	err = f.writeAside(aside, head, snapshot.Lines)
+	err = f.writeAside(aside, head, append(append([][]byte(nil), snapshot.Lines...), snapshot.Records...))
 	if err == nil {
 		err = os.Rename(aside, name)
 	}

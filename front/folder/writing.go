@@ -37,7 +37,7 @@ func (f *Folder) begin() error {
 	if f.current != nil && f.last+1 != f.began { // one without an edit is made anew, and isn't before itself
 		f.before = f.part()
 	}
-	head.Kind, head.After, head.Before = "journal", f.last, f.before
+	head.Kind, head.After, head.Before, head.Records = "journal", f.last, f.before, 0
 	if !f.links {
 		all, err := older(f.path, f.last)
 		if err != nil {
@@ -45,7 +45,7 @@ func (f *Folder) begin() error {
 		}
 		head.Older, f.chain, f.links = all, chainOf(all), true
 	}
-	head.Chain, head.Format = f.chain, f.format
+	head.Chain, head.Format, head.Campaigns = f.chain, f.format, f.format >= provisionFrom && f.reviews
 	record, err := headRecord(head)
 	if err != nil {
 		return err
@@ -139,8 +139,8 @@ func (f *Folder) Append(entries []Entry) error {
 	if f.broken != nil {
 		return f.broken
 	}
-	if f.format < campaignFrom && haveCampaign(entries) {
-		if err := f.beginCampaigns(); err != nil {
+	if format, campaigns := formatOf(entries); format > chainedFrom && f.format < format || campaigns && !f.reviews {
+		if err := f.beginFormat(format, campaigns); err != nil {
 			return err
 		}
 	}
@@ -172,12 +172,16 @@ func (f *Folder) Append(entries []Entry) error {
 	return nil
 }
 
-// beginCampaigns begins a journal that may have records of campaigns: what doesn't know them is to stop at it.
-func (f *Folder) beginCampaigns() error {
-	f.format = campaignFrom
+// beginFormat begins a journal that may have records of campaigns, or of SCIM: what doesn't know them is to stop at it.
+func (f *Folder) beginFormat(format int, campaigns bool) error {
+	before, were := f.format, f.reviews
+	if format > f.format {
+		f.format = format
+	}
+	f.reviews = f.reviews || campaigns
 	if err := f.begin(); err != nil {
-		f.format = chainedFrom
-		f.broken = fmt.Errorf("a journal with campaigns can't be begun: %w", err)
+		f.format, f.reviews = before, were
+		f.broken = fmt.Errorf("a journal of format %d can't be begun: %w", format, err)
 		return f.broken
 	}
 	return nil

@@ -85,7 +85,7 @@ func (a *asker) replay(ctx context.Context) error {
 			if entry.Serial > a.told {
 				return errEnough
 			}
-			if line.IsName(entry.Line) || entry.IsCampaign() {
+			if line.IsName(entry.Line) || entry.IsRecord() {
 				return nil
 			}
 			a.made++
@@ -223,7 +223,7 @@ func (a *asker) follow() {
 		return
 	}
 	for _, entry := range a.askers.news(a) {
-		if !line.IsName(entry.Line) && !entry.IsCampaign() {
+		if !line.IsName(entry.Line) && !entry.IsRecord() {
 			a.send(entry.Line, asked{})
 		}
 	}

@@ -123,7 +123,7 @@ func (k *Keeper) replay(
 // tell tells the program the next edit of a journal.
 func (r *running) tell(replay *replay, entry folder.Entry, place folder.Place) error {
 	r.serial = entry.Serial
-	if entry.IsCampaign() {
+	if entry.IsRecord() {
 		return nil
 	}
 	r.edit = entry.Serial

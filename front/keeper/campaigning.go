@@ -14,12 +14,14 @@ import (
 	"review-front/changed"
 	"review-front/folder"
 	"review-front/line"
+	"review-front/scim"
 )
 
-// act is a record of a campaign on its way. It is judged at its place among edits, by what the program answers there,
-// and is in the journal if it is taken.
+// act is a record of a campaign, or of SCIM, on its way. It is judged at its place among edits, that of a campaign by
+// what the program answers there, and is in the journal if it is taken.
 type act struct {
 	record  *campaigns.Record
+	scim    *scim.Record
 	items   *campaigns.Items // of a campaign that is opened
 	refused error            // why it isn't taken
 	known   bool             // it was taken by the front with whose snapshot this one began
@@ -51,6 +53,9 @@ func (k *Keeper) Act(ctx context.Context, record *campaigns.Record, by string) R
 // records before it count.
 func (s *serving) judge(call *Call) {
 	a := call.act
+	if a.scim != nil && call.sequence == 0 {
+		call.at = time.Now()
+	}
 	if a.record == nil {
 		return
 	}
@@ -115,6 +120,9 @@ func (s *serving) hear(l []byte, to io.Writer, last bool) error {
 func (s *serving) acted(next *settled) []byte {
 	call := next.call
 	a := call.act
+	if a.scim != nil {
+		return s.provisioned(next)
+	}
 	if a.refused != nil || a.record == nil {
 		return []byte(`{}`)
 	}

@@ -102,7 +102,7 @@ func (k *Keeper) writeState(to io.Writer) (uint64, error) {
 	serial := snapshot.Serial
 	err = k.Folder.Each(snapshot.Serial, func(entry folder.Entry, _ folder.Place) error {
 		serial = entry.Serial
-		if entry.IsCampaign() {
+		if entry.IsRecord() {
 			return nil
 		}
 		return write(entry.Line)

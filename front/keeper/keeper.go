@@ -18,7 +18,9 @@ import (
 	"review-front/marks"
 	"review-front/notices"
 	"review-front/program"
+	"review-front/provision"
 	"review-front/replicated"
+	"review-front/scim"
 	"review-front/sessions"
 	"review-front/spool"
 )
@@ -86,6 +88,8 @@ type Options struct {
 	Heads         Heads                 // makes heads of the journal's chain; may be nil
 	Announce      func(campaigns.Event) // is told of campaigns that this front opened, reminded of and ended; may be nil
 	CheckEvery    uint64                // after so many edits of a stream fronts compare their states; 0: never
+	Provision     *provision.Mapping    // which names and rows users of SCIM have; nil: none
+	AtMost        Bound                 // how many people may go by SCIM within a while
 }
 
 // Heads makes the head of the chain of the journal behind an edit, and is told why.
@@ -141,7 +145,7 @@ type Call struct {
 	sent     bool         // it was sent to the stream, of a body with a key
 	doubted  uint64       // where it stands if it is appended, of which nobody is sure; 0: that is no question
 	answer   atomic.Int32 // whether its client has an answer
-	// act, if there is one, is a record of a campaign, which the program isn't told.
+	// act, if there is one, is a record of a campaign or of SCIM, which the program isn't told.
 	act *act
 	// to, if there is one, takes the reply to what is asked for an act, as it comes, and heard is told that it did.
 	to    io.Writer
@@ -157,32 +161,35 @@ type Keeper struct {
 	Marks    *marks.Book
 	// Campaigns has the reviews of access that the journal has.
 	Campaigns *campaigns.Table
-	ladder    *ladder.Ladder
+	// Scim has the users and groups that the journal has.
+	Scim   *scim.Table
+	ladder *ladder.Ladder
 
-	streamed *streamed // nil without a stream
-	askers   *askers
-	edits    *edits
-	spare    *spare
-	recorder *recorder
-	pasts    *pasts
-	queue    chan *Call
-	edited   chan struct{}
-	ready    *readiness
-	serving  atomic.Pointer[watched] // the program to which lines are sent
-	serial   atomic.Uint64
-	lastEdit atomic.Uint64 // that of the last edit; behind it there may be records of campaigns
-	reached  *progress     // says that it has grown
-	snapshot atomic.Uint64 // the serial of the newest snapshot
-	tried    atomic.Uint64 // the serial at which one was tried last
-	day      atomic.Int64  // the day on which that was
-	took     atomic.Int64  // how long the edits since then took, in nanoseconds
-	asked    chan struct{} // a snapshot is wanted
-	long     chan struct{} // holds something while a long reply is due
-	held     []*Call       // lines that were taken and not sent; the next program has them first
-	version  string
-	shifted  uint64                 // added to the count of evaluations, since a planned change can't be seen
-	repaired atomic.Int64           // when repair of the journal was tried last, in nanoseconds
-	unkept   atomic.Pointer[string] // why edits can't be kept; nil where they can be
+	provisioning *provisioning
+	streamed     *streamed // nil without a stream
+	askers       *askers
+	edits        *edits
+	spare        *spare
+	recorder     *recorder
+	pasts        *pasts
+	queue        chan *Call
+	edited       chan struct{}
+	ready        *readiness
+	serving      atomic.Pointer[watched] // the program to which lines are sent
+	serial       atomic.Uint64
+	lastEdit     atomic.Uint64 // that of the last edit; behind it there may be records that are none
+	reached      *progress     // says that it has grown
+	snapshot     atomic.Uint64 // the serial of the newest snapshot
+	tried        atomic.Uint64 // the serial at which one was tried last
+	day          atomic.Int64  // the day on which that was
+	took         atomic.Int64  // how long the edits since then took, in nanoseconds
+	asked        chan struct{} // a snapshot is wanted
+	long         chan struct{} // holds something while a long reply is due
+	held         []*Call       // lines that were taken and not sent; the next program has them first
+	version      string
+	shifted      uint64                 // added to the count of evaluations, since a planned change can't be seen
+	repaired     atomic.Int64           // when repair of the journal was tried last, in nanoseconds
+	unkept       atomic.Pointer[string] // why edits can't be kept; nil where they can be
 }
 
 // New makes a keeper. Nothing is started before Open.
@@ -190,13 +197,14 @@ func New(options Options) *Keeper {
 	k := &Keeper{
 		Options: options, Sessions: sessions.NewTable(options.MostSessions), Notices: notices.NewHub(options.Kept.Recent),
 		Keys: keys.New(options.Folder), Marks: marks.New(options.Folder), ladder: ladder.New(options.Kept),
-		Campaigns: campaigns.NewTable(),
-		ready:     newReadiness(), queue: make(chan *Call, options.Queue),
+		Campaigns: campaigns.NewTable(), Scim: scim.NewTable(frontName()),
+		ready: newReadiness(), queue: make(chan *Call, options.Queue),
 		edited: make(chan struct{}, 1), asked: make(chan struct{}, 1), reached: &progress{}, long: make(chan struct{}, 1),
 	}
 	k.askers, k.edits, k.spare = newAskers(k, options.Askers), newEdits(), newSpare(k)
 	k.streamed, k.recorder = newStreamed(k, options.Stream), newRecorder(k)
 	k.pasts = newPasts(k, options.Past)
+	k.provisioning = newProvisioning(k)
 	if options.Folder != nil { // tests of what never opens it have none
 		options.Folder.KeepDaily(options.KeepDaily)
 	}

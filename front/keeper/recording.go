@@ -168,7 +168,7 @@ func (p *recorder) send(all []wanted) error {
 	for _, one := range all {
 		lines := [][]byte{marking, one.Line, noticing}
 		switch {
-		case one.IsCampaign():
+		case one.IsRecord():
 			lines = nil
 		case !one.asked:
 			lines = lines[1:2]
@@ -191,7 +191,7 @@ func (p *recorder) receive(all []wanted) error {
 				return err
 			}
 		}
-		if !one.IsCampaign() {
+		if !one.IsRecord() {
 			r.numbers.add(one.Serial)
 			if err := r.expects(isSame(one.Changes, r.numbers.own)); err != nil {
 				return fmt.Errorf("edit %d: %w", one.Serial, err)

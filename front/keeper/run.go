@@ -46,6 +46,9 @@ func (k *Keeper) Start(ctx context.Context) (*Started, error) {
 	if err := k.resumeCampaigns(ctx); err != nil {
 		return nil, err
 	}
+	if err := k.resumeScim(); err != nil {
+		return nil, err
+	}
 	if k.version, err = k.says(ctx); err != nil {
 		return nil, err
 	}
@@ -141,7 +144,7 @@ func (s *Started) Run(ctx context.Context) error {
 	defer stop()
 	background, cancel := context.WithCancel(ctx)
 	var done sync.WaitGroup
-	done.Add(10)
+	done.Add(11)
 	var differs error
 	go func() {
 		defer done.Done()
@@ -180,6 +183,10 @@ func (s *Started) Run(ctx context.Context) error {
 	go func() {
 		defer done.Done()
 		k.reminds(background)
+	}()
+	go func() {
+		defer done.Done()
+		k.provisioning.run(background)
 	}()
 	var damage error
 	go func() {
@@ -258,6 +265,9 @@ func (k *Keeper) again(ctx context.Context, old *running) (*running, error) {
 	k.Log.Error("the program is started anew", "why", why, "ended", old.Ended(), "process", old.ID())
 	k.shifted = 0
 	k.Campaigns.Cut(k.Folder.Last())
+	if err := k.cutScim(); err != nil {
+		return nil, err
+	}
 	if err := k.streamed.rests(ctx); err != nil {
 		return nil, err
 	}

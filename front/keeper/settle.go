@@ -285,8 +285,9 @@ func (k *Keeper) write(batch []settled) error {
 	k.askers.tell(entries)
 	k.spare.tell(entries)
 	k.recorder.tell(entries)
+	k.provisioning.tell(entries)
 	for _, entry := range entries {
-		if !entry.IsCampaign() {
+		if !entry.IsRecord() {
 			k.lastEdit.Store(entry.Serial)
 		}
 	}

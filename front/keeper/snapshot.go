@@ -132,6 +132,10 @@ func (k *Keeper) verified(ctx context.Context, reply Reply) error {
 	if err := k.second(ctx, snapshot, reply.Body); err != nil {
 		return err
 	}
+	var err error
+	if snapshot.Records, err = k.scimAt(reply.Serial); err != nil {
+		return err
+	}
 	return k.Folder.Keep(snapshot)
 }
 

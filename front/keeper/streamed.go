@@ -12,6 +12,7 @@ import (
 	"review-front/campaigns"
 	"review-front/line"
 	"review-front/replicated"
+	"review-front/scim"
 )
 
 const (
@@ -269,6 +270,9 @@ func (l *streamed) take(edit replicated.Edit) *Call {
 func callOf(edit replicated.Edit) *Call {
 	if campaigns.IsRecord(edit.Line) {
 		return &Call{Line: edit.Line, By: edit.By, kind: line.Edit, act: actOf(edit.Line), reply: make(chan Reply, 1)}
+	}
+	if scim.IsRecord(edit.Line) {
+		return &Call{Line: edit.Line, By: edit.By, kind: line.Edit, act: provisionOf(edit.Line), reply: make(chan Reply, 1)}
 	}
 	lines := [][]byte{edit.Line}
 	if edit.Whole {

@@ -39,7 +39,7 @@ func (s *spare) due() (edits []folder.Entry) {
 	var last uint64
 	for _, entry := range s.news {
 		last = entry.Serial
-		if last > s.now.serial && s.own[last] != s.broken && !entry.IsCampaign() {
+		if last > s.now.serial && s.own[last] != s.broken && !entry.IsRecord() {
 			edits = append(edits, entry)
 		}
 	}

@@ -161,7 +161,10 @@ func (s *Server) described() map[string]object {
 	add(http.MethodPost, "/authorize", nil, operations["POST /authorize"])
 	for _, route := range s.known {
 		q, isQuestion := asked[route.path]
-		told := operations[route.method+" "+route.path]
+		told, known := operations[route.method+" "+route.path]
+		if !known {
+			told = scimOperations[route.method+" "+route.path]
+		}
 		if isQuestion && route.method == http.MethodGet {
 			told = telling("Gives the reply to the command "+q.do+".", q.has())
 			told.keys = []key{{atKey, textOrNot}}
@@ -214,6 +217,9 @@ func (o operation) written(path string, keys []key) object {
 		status = http.StatusOK
 	}
 	wrong := object{problemType: object{"schema": object{"$ref": "#/components/schemas/Problem"}}}
+	if strings.HasPrefix(path, scimPrefix) {
+		wrong = object{scimType: object{"schema": object{"type": "object", "required": []string{"status"}}}}
+	}
 	if strings.HasPrefix(path, authzenPrefix) {
 		parameters = append(parameters, object{
 			"name": requestID, "in": "header", "required": false, "schema": object{"type": "string"},

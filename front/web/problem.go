@@ -24,6 +24,8 @@ type problem struct {
 	// Changed is what isn't as it was seen, of an act of a campaign.
 	Changed any `json:"changed,omitempty"`
 	after   int // after how many seconds it may be tried again
+	// scimType is the word of SCIM's for it, at SCIM's paths.
+	scimType string
 }
 
 const (
@@ -84,6 +86,9 @@ func problemFor(err error) problem {
 	if told, is := problemOfCampaign(err); is {
 		return told
 	}
+	if told, is := problemOfScim(err); is {
+		return told
+	}
 	after := 1
 	var why *keeper.Unavailable
 	var tried *keeper.Tried
@@ -140,10 +145,14 @@ func (p problem) head(w http.ResponseWriter, kind string) {
 	w.WriteHeader(p.Status)
 }
 
-// send answers with the problem, at AuthZEN's paths as these have it.
+// send answers with the problem, at paths of AuthZEN and of SCIM as these have it.
 func (p problem) send(w http.ResponseWriter) {
 	if a, ok := w.(*answered); ok && a.authzen {
 		sendAuthzenProblem(w, &p)
+		return
+	}
+	if a, ok := w.(*answered); ok && a.scim {
+		p.sendScim(w)
 		return
 	}
 	if a, ok := w.(*answered); ok && a.check {

@@ -63,6 +63,9 @@ func (s *Server) routes() []route {
 	if s.Check != nil {
 		all = append(all, s.checkRoutes()...)
 	}
+	if s.Keeper.Provision != nil {
+		all = append(all, s.scimRoutes()...)
+	}
 	return all
 }
 

@@ -91,6 +91,11 @@ func New(options Options) *Server {
 	for _, q := range questions {
 		s.byLines[q.path] = true
 	}
+	if options.Keeper.Provision != nil {
+		for _, one := range s.scimRoutes() { // each of which sees that its own command is allowed
+			s.byLines[one.path] = true
+		}
+	}
 	s.stopping, s.drying = make(chan struct{}), make(chan struct{}, 1)
 	s.summing = make(chan struct{}, 1)
 	return s
@@ -145,6 +150,7 @@ type answered struct {
 	last    *atomic.Bool // connections aren't kept
 	authzen bool         // what is wrong is told by AuthZEN's rules
 	check   bool         // what is wrong is told a proxy, by a reason
+	scim    bool         // what is wrong is told as SCIM has it
 }
 
 // begin says by which status the answer begins. A connection whose body wasn't read isn't kept: what is left of it
@@ -223,6 +229,7 @@ func (s *Server) serve(w http.ResponseWriter, r *http.Request) {
 	}
 	s.asAuthzen(a, r)
 	s.asCheck(a, r)
+	s.asScim(a, r)
 	name := s.answer(a, r)
 	a.end()
 	a.allow() // for the end of the answer
