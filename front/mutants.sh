@@ -260,6 +260,7 @@ folder/writing.go . TestCampaignKept s/if f\.format < campaignFrom && haveCampai
 web/ids.go . TestByRule s/if told != nil || stored\[asked\.Policy\] {/if true {/
 web/ids.go web TestElementIDs s/range e\.PolicySet\.Children {/range e.PolicySet.Children[:0] {/
 folder/writing.go . TestCampaignKept s/format > chainedFrom \&\& f\.format < format || campaigns/campaigns \&\& f.format < 0 || campaigns \&\& f.format > 3/
+folder/writing.go . TestCampaignKept s/format > chainedFrom \&\& f\.format < format || campaigns \&\& !f\.reviews {/false {/
 ROWS
 tests=$(awk '{ print "^" $3 "$" }' "$aside/rows" | sort -u | paste -sd '|')
 ./build.sh go test -count=1 -run "$tests" ./... >"$aside/said" 2>&1 || { cat "$aside/said"; exit 1; }
