@@ -44,10 +44,13 @@ func commandsOf(page string) (all []pageCommand) {
 var (
 	aTime = regexp.MustCompile(`\d{4}-\d\d-\d\dT\d\d:\d\d:\d\d(\.\d+)?Z`)
 	aSum  = regexp.MustCompile(`[0-9a-f]{64}`)
+	anID  = regexp.MustCompile(`[0-9a-f]{8}-[0-9a-f]{4}-[0-9a-f]{4}-[0-9a-f]{4}-[0-9a-f]{12}`)
 )
 
 // alike is a line without what is another one each time.
-func alike(l string) string { return aSum.ReplaceAllString(aTime.ReplaceAllString(l, "TIME"), "SUM") }
+func alike(l string) string {
+	return anID.ReplaceAllString(aSum.ReplaceAllString(aTime.ReplaceAllString(l, "TIME"), "SUM"), "ID")
+}
 
 // isSaid says whether a line is as a page has it, which may leave out its end.
 func isSaid(said, page string) bool {
@@ -61,18 +64,25 @@ func isSaid(said, page string) bool {
 
 // TestCampaignsPage runs the commands of the page on campaigns as they are written, and compares what they say with
 // what stands there. FRONT_PAGE names a file into which the page is written with what they said.
-func TestCampaignsPage(t *testing.T) {
+func TestCampaignsPage(t *testing.T) { tryPage(t, campaignsPage, 20) }
+
+// TestScimPage does so with the page on SCIM.
+func TestScimPage(t *testing.T) { tryPage(t, "../docs/SCIM.md", 15) }
+
+// tryPage runs the commands of a page, which has so many at least.
+func tryPage(t *testing.T, page string, least int) {
+	t.Helper()
 	for _, needed := range []string{"bash", "curl", "jq", "openssl"} {
 		if _, err := exec.LookPath(needed); err != nil {
 			t.Skip(needed + " isn't there")
 		}
 	}
-	content, err := os.ReadFile(campaignsPage)
+	content, err := os.ReadFile(page)
 	if err != nil {
 		t.Fatal(err)
 	}
 	commands := commandsOf(string(content))
-	if len(commands) < 20 {
+	if len(commands) < least {
 		t.Fatalf("the page has %d commands", len(commands))
 	}
 	said := runPage(t, commands)

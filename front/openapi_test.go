@@ -52,6 +52,35 @@ var sent = map[string][2]string{
 	"POST /campaigns/{campaign}/pass":        {"/campaigns/q4/pass", `{"items":[0],"to":"ada"}`},
 	"POST /campaigns/{campaign}/undo":        {"/campaigns/q4/undo", `{"items":[0]}`},
 	"POST /campaigns/{campaign}/close":       {"/campaigns/q4/close", ""},
+	"POST /scim/v2/Users":                    {"/scim/v2/Users", `{"userName":"ann"}`},
+	"POST /scim/v2/Groups":                   {"/scim/v2/Groups", `{"displayName":"nurses"}`},
+	"POST /scim/v2/Users/.search":            {"/scim/v2/Users/.search", `{"filter":"userName pr"}`},
+	"POST /scim/v2/Groups/.search":           {"/scim/v2/Groups/.search", `{}`},
+	"POST /scim/v2/.search":                  {"/scim/v2/.search", `{}`},
+	"POST /scim/v2/Bulk":                     {"/scim/v2/Bulk", `{}`},
+	"GET /scim/v2/Users":                     {"/scim/v2/Users", ""},
+	"GET /scim/v2/Groups":                    {"/scim/v2/Groups", ""},
+	"GET /scim/v2/Users/{id}":                {"/scim/v2/Users/none", ""},
+	"GET /scim/v2/Groups/{id}":               {"/scim/v2/Groups/none", ""},
+	"PUT /scim/v2/Users/{id}":                {"/scim/v2/Users/none", `{"userName":"bob"}`},
+	"PUT /scim/v2/Groups/{id}":               {"/scim/v2/Groups/none", `{"displayName":"x"}`},
+	"PATCH /scim/v2/Users/{id}":              {"/scim/v2/Users/none", `{"Operations":[]}`},
+	"PATCH /scim/v2/Groups/{id}":             {"/scim/v2/Groups/none", `{"Operations":[]}`},
+	"DELETE /scim/v2/Users/{id}":             {"/scim/v2/Users/none", ""},
+	"DELETE /scim/v2/Groups/{id}":            {"/scim/v2/Groups/none", ""},
+	"GET /scim/v2/Me":                        {"/scim/v2/Me", ""},
+	"POST /scim/v2/Me":                       {"/scim/v2/Me", "{}"},
+	"PUT /scim/v2/Me":                        {"/scim/v2/Me", "{}"},
+	"PATCH /scim/v2/Me":                      {"/scim/v2/Me", "{}"},
+	"DELETE /scim/v2/Me":                     {"/scim/v2/Me", ""},
+	"GET /scim/v2/ServiceProviderConfig":     {"/scim/v2/ServiceProviderConfig", ""},
+	"GET /scim/v2/Schemas":                   {"/scim/v2/Schemas", ""},
+	"GET /scim/v2/Schemas/{schema}":          {"/scim/v2/Schemas/urn:ietf:params:scim:schemas:core:2.0:User", ""},
+	"GET /scim/v2/ResourceTypes":             {"/scim/v2/ResourceTypes", ""},
+	"GET /scim/v2/ResourceTypes/{name}":      {"/scim/v2/ResourceTypes/Group", ""},
+	"GET /scim/hold":                         {"/scim/hold", ""},
+	"POST /scim/hold":                        {"/scim/hold", `{"why":"we look at it"}`},
+	"DELETE /scim/hold":                      {"/scim/hold", ""},
 }
 
 const todoQuestion = `{"subject":{"type":"user","id":"ben"},"action":{"name":"can_read_todos"},"resource":{"type":"todo","id":"milk"}}`
@@ -59,7 +88,7 @@ const todoQuestion = `{"subject":{"type":"user","id":"ben"},"action":{"name":"ca
 // TestOpenAPI asks each path by each method, and compares the answer with the document; and its paths with those that
 // are listed.
 func TestOpenAPI(t *testing.T) {
-	f := begin(t, t.TempDir(), "--authzen", filepath.Join(todoFolder, "authzen.json"))
+	f := begin(t, t.TempDir(), "--authzen", filepath.Join(todoFolder, "authzen.json"), "--scim", scimFile(t, scimMapping))
 	f.accept(clinic(t)...)
 	var told document
 	if err := json.Unmarshal([]byte(f.must("/openapi.json")), &told); err != nil || told.OpenAPI != "3.0.3" {

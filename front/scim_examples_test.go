@@ -27,8 +27,8 @@ const exampleUser = `{
  "urn:ietf:params:scim:schemas:extension:enterprise:2.0:User":{"employeeNumber":"17","costCenter":"41","organization":
   "The Clinic","division":"Theatres","department":"Surgery","manager":{"value":"26118915"}}}`
 
-// TestScimExamples does what the examples of RFC 7644 do: making (3.3), reading (3.4.1), lists (3.4.2), searches (3.4.3),
-// replacing (3.5.1), operations (3.5.2), taking away (3.6), versions (3.14), and what is told of the server (4).
+// TestScimExamples does what the examples of RFC 7644 do: making (3.3), reading (3.4.1), lists (3.4.2), searches
+// (3.4.3), replacing (3.5.1), operations (3.5.2), taking away (3.6), and versions (3.14).
 func TestScimExamples(t *testing.T) {
 	f := provisioned(t, t.TempDir())
 	made := f.scim(t, "POST", "/Users", exampleUser)
@@ -56,11 +56,13 @@ func TestScimExamples(t *testing.T) {
 	if !reflect.DeepEqual(read.body, given) {
 		t.Errorf("it is read as %s, and was sent as %s", read.text, exampleUser)
 	}
-	if got := f.scim(t, "GET", "/Users/"+id+"?attributes=userName,emails.value,name.givenName", ""); !reflect.DeepEqual(keysOf(got.body),
-		[]string{"emails", "id", "name", "schemas", "userName"}) || fmt.Sprint(got.body["name"]) != "map[givenName:Mira]" {
+	got := f.scim(t, "GET", "/Users/"+id+"?attributes=userName,emails.value,name.givenName", "")
+	if want := "[emails id name schemas userName]"; fmt.Sprint(keysOf(got.body)) != want ||
+		fmt.Sprint(got.body["name"]) != "map[givenName:Mira]" {
 		t.Errorf("with some attributes it is told as %s", got.text)
 	}
-	if got := f.scim(t, "GET", "/Users/"+id+"?excludedAttributes=emails,name.familyName,id", ""); got.body["emails"] != nil ||
+	got = f.scim(t, "GET", "/Users/"+id+"?excludedAttributes=emails,name.familyName,id", "")
+	if got.body["emails"] != nil ||
 		got.body["id"] == nil || strings.Contains(got.text, "familyName") || !strings.Contains(got.text, "givenName") {
 		t.Errorf("without some attributes it is told as %s", got.text)
 	}
@@ -74,15 +76,18 @@ func TestScimExamples(t *testing.T) {
 		if method == "PATCH" {
 			body = operations(`{"op":"remove","path":"title"}`)
 		}
-		if got := f.scim(t, method, "/Users/"+id, body, "If-Match", `W/"0"`); got.status != 412 || got.body["status"] != "412" {
+		got := f.scim(t, method, "/Users/"+id, body, "If-Match", `W/"0"`)
+		if got.status != 412 || got.body["status"] != "412" {
 			t.Errorf("%s behind another version is answered %d %s", method, got.status, got.text)
 		}
 	}
-	patched := f.scim(t, "PATCH", "/Users/"+id, operations(`{"op":"remove","path":"title"}`), "If-Match", made.head.Get("ETag"))
+	patched := f.scim(t, "PATCH", "/Users/"+id, operations(`{"op":"remove","path":"title"}`), "If-Match",
+		made.head.Get("ETag"))
 	if patched.status != 200 || patched.body["title"] != nil || patched.head.Get("ETag") == made.head.Get("ETag") {
 		t.Errorf("it is answered %d %s", patched.status, patched.text)
 	}
-	if got := f.scim(t, "DELETE", "/Users/"+id, "", "If-Match", patched.head.Get("ETag")); got.status != 204 || got.text != "" {
+	got = f.scim(t, "DELETE", "/Users/"+id, "", "If-Match", patched.head.Get("ETag"))
+	if got.status != 204 || got.text != "" {
 		t.Errorf("it is answered %d %s", got.status, got.text)
 	}
 	if got := f.scim(t, "GET", "/Users/"+id, ""); got.status != 404 || got.body["status"] != "404" {
@@ -166,7 +171,8 @@ func TestScimWrong(t *testing.T) {
 	}{
 		{"POST", "/Users", "{", 400, "invalidSyntax"}, {"POST", "/Users", "[]", 400, "invalidSyntax"},
 		{"POST", "/Users", "null", 400, "invalidSyntax"}, {"POST", "/Users", `{} {}`, 400, "invalidSyntax"},
-		{"POST", "/Users", `{"displayName":"x"}`, 400, "invalidValue"}, {"POST", "/Users", aUser("", ""), 400, "invalidValue"},
+		{"POST", "/Users", `{"displayName":"x"}`, 400, "invalidValue"},
+		{"POST", "/Users", aUser("", ""), 400, "invalidValue"},
 		{"POST", "/Users", `{"schemas":["urn:x"],"userName":"x"}`, 400, "invalidValue"},
 		{"POST", "/Users", aUser("x", `,"active":"maybe"`), 400, "invalidValue"},
 		{"POST", "/Users", aUser("x", `,"title":7`), 400, "invalidValue"},
@@ -199,17 +205,21 @@ func TestScimWrong(t *testing.T) {
 		{"PATCH", "/Groups/" + group, patch(`{"op":"replace","path":"members[value eq \"x\"]","value":{}}`), 400, "noTarget"},
 		{"GET", list(`userName`), "", 400, "invalidFilter"}, {"GET", list(`userName is "x"`), "", 400, "invalidFilter"},
 		{"GET", list(`nothing eq "x"`), "", 400, "invalidFilter"}, {"GET", list(`userName eq x`), "", 400, "invalidFilter"},
-		{"GET", list(`userName eq "x" and`), "", 400, "invalidFilter"}, {"GET", list(`(userName pr`), "", 400, "invalidFilter"},
-		{"GET", list(`emails[type eq "x"`), "", 400, "invalidFilter"}, {"GET", list(`active gt true`), "", 400, "invalidFilter"},
+		{"GET", list(`userName eq "x" and`), "", 400, "invalidFilter"},
+		{"GET", list(`(userName pr`), "", 400, "invalidFilter"},
+		{"GET", list(`emails[type eq "x"`), "", 400, "invalidFilter"},
+		{"GET", list(`active gt true`), "", 400, "invalidFilter"},
 		{"GET", list(`name eq "x"`), "", 400, "invalidFilter"}, {"GET", list(`userName eq 7`), "", 400, "invalidFilter"},
 		{"GET", list(strings.Repeat("(", 40) + "userName pr" + strings.Repeat(")", 40)), "", 400, "invalidFilter"},
 		{"GET", list(strings.Repeat("x", 9000)), "", 400, "invalidFilter"},
 		{"GET", "/Users?sortBy=nothing", "", 400, "invalidPath"}, {"GET", "/Users?sortBy=name", "", 400, "invalidPath"},
-		{"GET", "/Users?sortBy=title&sortOrder=up", "", 400, "invalidValue"}, {"GET", "/Users?count=x", "", 400, "invalidValue"},
+		{"GET", "/Users?sortBy=title&sortOrder=up", "", 400, "invalidValue"},
+		{"GET", "/Users?count=x", "", 400, "invalidValue"},
 		{"GET", "/Users?attributes=nothing", "", 400, "invalidPath"}, {"POST", "/.search", "no", 400, "invalidSyntax"},
 		{"POST", "/Bulk", "{}", 501, ""}, {"GET", "/Me", "", 501, ""}, {"PATCH", "/Me", "{}", 501, ""},
 		{"GET", "/Users/none", "", 404, ""}, {"GET", "/Groups/" + id, "", 404, ""}, {"GET", "/Nothing", "", 404, ""},
-		{"GET", "/Schemas/urn:x", "", 404, ""}, {"GET", "/Schemas?filter=id+pr", "", 403, ""}, {"DELETE", "/Users", "", 405, ""},
+		{"GET", "/Schemas/urn:x", "", 404, ""}, {"GET", "/Schemas?filter=id+pr", "", 403, ""},
+		{"DELETE", "/Users", "", 405, ""},
 	} {
 		got := f.scim(t, one.method, one.path, one.body)
 		kind, _ := got.body["scimType"].(string)

@@ -3,6 +3,7 @@ package main
 import (
 	"fmt"
 	"net/http"
+	"os"
 	"sync"
 	"testing"
 	"time"
@@ -44,11 +45,21 @@ func (f *front) madeAll(t testing.TB, count int) []string {
 // each is to take less than 50 ms, of a processor that has nothing else to do.
 func TestScimMany(t *testing.T) {
 	count := number("FRONT_SCIM_MANY", 1000)
-	f := provisioned(t, t.TempDir(), "--people", fmt.Sprint(count+10), "--cells", fmt.Sprint(count+100), "--patience", "60s",
+	path := os.Getenv("FRONT_SCIM_FOLDER")
+	if path == "" {
+		path = t.TempDir()
+	}
+	f := provisioned(t, path, "--people", fmt.Sprint(count+10), "--cells", fmt.Sprint(count+100), "--patience", "60s",
 		"--snapshot-every", "100000", "--replay-time", "0")
 	began := time.Now()
 	ids := f.madeAll(t, count)
 	t.Logf("%d users were made in %v", count, time.Since(began).Round(time.Millisecond))
+	serial := f.metric("review_front_serial")
+	eventually(t, "it is known what the edits changed", func() bool {
+		status, _ := f.get(fmt.Sprintf("/changes?since=%d", int(serial)))
+		return status == http.StatusOK
+	})
+	t.Logf("it was known what the edits changed after %v", time.Since(began).Round(time.Millisecond))
 	group := f.made(t, "/Groups", `{"displayName":"one"}`)
 	for _, one := range []struct{ what, method, path, body string }{
 		{"the first page", "GET", "/Users?count=100", ""},

@@ -97,8 +97,9 @@ func (m *scimModel) step() {
 func (m *scimModel) anyUser(id string) scimUser {
 	pick := func(words ...string) string { return words[m.random.Intn(len(words))] }
 	u := scimUser{
-		id: id, name: fmt.Sprintf("%s%d-%d", pick("w", "W"), m.client, m.random.Intn(40)), active: pick("", "true", "true", "false"),
-		title: pick("", "Dr"), department: pick("", "er", "icu"), mail: pick("", "a@x", "b@x"),
+		id: id, name: fmt.Sprintf("%s%d-%d", pick("w", "W"), m.client, m.random.Intn(40)),
+		active: pick("", "true", "true", "false"),
+		title:  pick("", "Dr"), department: pick("", "er", "icu"), mail: pick("", "a@x", "b@x"),
 	}
 	for _, role := range []string{"nurse", "lead", "night"} {
 		if m.random.Intn(3) == 0 {
@@ -314,7 +315,8 @@ func (m *scimModel) operation(u *scimUser, other scimUser) string {
 		return `{"op":"Replace","path":"userName","value":"` + u.name + `"}`
 	case 1:
 		u.active = []string{"true", "false"}[m.random.Intn(2)]
-		return `{"op":"replace","value":{"active":` + []string{u.active, `"` + strings.Title(u.active) + `"`}[m.random.Intn(2)] + `}}`
+		written := []string{u.active, `"` + strings.Title(u.active) + `"`}[m.random.Intn(2)]
+		return `{"op":"replace","value":{"active":` + written + `}}`
 	case 2:
 		u.title = ""
 		return `{"op":"remove","path":"title"}`

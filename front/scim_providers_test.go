@@ -8,8 +8,8 @@ import (
 	"testing"
 )
 
-// scimAsked is a request as a provider sends it, and what is to be answered and so behind it. `{ann}` stands for the id of a
-// user, `{nurses}` for that of a group.
+// scimAsked is a request as a provider sends it, and what is to be answered and so behind it. `{ann}` stands for the id
+// of a user, `{nurses}` for that of a group.
 type scimAsked struct {
 	what, method, path, body string
 	status                   int
@@ -81,9 +81,10 @@ var providers = []scimAsked{
 	{"all roles go", "PATCH", "/Users/{ann}", with(`{"op":"Remove","path":"roles"}`), 200, "",
 		"department=[icu] direct=[nurses] group=[nurses] mail=[b@x]"},
 	{"an empty list is sent along", "PUT", "/Users/{ann}", aUser("ann", `,"id":"{ann}","externalId":"42","active":true,
-		"groups":[],"roles":[],"locale":"en-US","name":{"givenName":"Ann","familyName":"Lee"},"meta":{"resourceType":"User"}`),
-		200, `"locale":"en-US"`, "direct=[nurses] group=[nurses]"},
-	{"a group without its members", "GET", `/Groups/{nurses}?excludedAttributes=members`, "", 200, `"displayName":"nurses"`, ""},
+		"groups":[],"roles":[],"locale":"en-US","name":{"givenName":"Ann","familyName":"Lee"},
+		"meta":{"resourceType":"User"}`), 200, `"locale":"en-US"`, "direct=[nurses] group=[nurses]"},
+	{"a group without its members", "GET", `/Groups/{nurses}?excludedAttributes=members`, "", 200,
+		`"displayName":"nurses"`, ""},
 	{"a group by its name", "GET", `/Groups?excludedAttributes=members&filter=displayName eq "Nurses"`, "", 200,
 		`"totalResults":1`, ""},
 	{"whether somebody is in a group", "GET", `/Groups?filter=id eq "{nurses}" and members eq "{ann}"`, "", 200,
@@ -91,15 +92,16 @@ var providers = []scimAsked{
 	{"or isn't", "GET", `/Groups?filter=id eq "{nurses}" and members[value eq "{bob}"]`, "", 200, `"totalResults":0`, ""},
 	{"a member goes, by a filter", "PATCH", "/Groups/{nurses}",
 		with(`{"op":"remove","path":"members[value eq \"{ann}\"]"}`), 204, "", "none"},
-	{"once more", "PATCH", "/Groups/{nurses}", with(`{"op":"remove","path":"members[value eq \"{ann}\"]"}`), 204, "", "none"},
+	{"once more", "PATCH", "/Groups/{nurses}", with(`{"op":"remove","path":"members[value eq \"{ann}\"]"}`), 204, "",
+		"none"},
 	{"a member comes", "PATCH", "/Groups/{nurses}",
 		with(`{"op":"Add","path":"members","value":[{"value":"{ann}"},{"value":"{bob}"}]}`), 204, "",
 		"direct=[nurses] group=[nurses]"},
 	{"members go that are named", "PATCH", "/Groups/{nurses}",
 		with(`{"op":"Remove","path":"members","value":[{"value":"{bob}"}]}`), 204, "", "direct=[nurses] group=[nurses]"},
 	{"members are replaced, with what they are called", "PATCH", "/Groups/{nurses}",
-		with(`{"op":"replace","path":"members","value":[{"value":"{bob}","display":"bob"},{"value":"{ann}","display":"ann"}]}`),
-		204, "", "direct=[nurses] group=[nurses]"},
+		with(`{"op":"replace","path":"members","value":[{"value":"{bob}","display":"bob"},` +
+			`{"value":"{ann}","display":"ann"}]}`), 204, "", "direct=[nurses] group=[nurses]"},
 	{"a group's name, without a path", "PATCH", "/Groups/{nurses}",
 		with(`{"op":"replace","value":{"id":"{nurses}","displayName":"carers"}}`), 204, "", "direct=[carers] group=[carers]"},
 	{"a group as a whole", "PUT", "/Groups/{nurses}", `{"schemas":["` + groupSchemaID + `"],"id":"{nurses}",
@@ -112,8 +114,8 @@ var providers = []scimAsked{
 	{"still in the group", "GET", "/Users/{ann}", "", 200, `"display":"nurses"`, "none"},
 	{"and back", "PATCH", "/Users/{ann}", with(`{"op":"replace","value":{"active":true}}`), 200, `"active":true`,
 		"direct=[nurses] group=[nurses]"},
-	{"deactivated before it is taken away", "PATCH", "/Users/{ann}", with(`{"op":"replace","value":{"active":false}}`), 200,
-		`"active":false`, "none"},
+	{"deactivated before it is taken away", "PATCH", "/Users/{ann}", with(`{"op":"replace","value":{"active":false}}`),
+		200, `"active":false`, "none"},
 	{"taken away", "DELETE", "/Users/{ann}", "", 204, "", "none"},
 	{"taken away once more", "DELETE", "/Users/{ann}", "", 404, `"status":"404"`, "none"},
 	{"a group has no member who isn't there", "GET", `/Groups?filter=members eq "{ann}"`, "", 200, `"totalResults":0`, ""},
@@ -157,7 +159,8 @@ func TestScimRetries(t *testing.T) {
 		{"PATCH", with(`{"op":"add","path":"emails","value":[{"value":"a@x","type":"work","primary":true}]}`)},
 		{"PUT", aUser("ann", `,"active":true,"externalId":"42","emails":[{"value":"a@x","type":"work","primary":true}]`)},
 	} {
-		if got := f.scim(t, one[0], ids.Replace("/Users/{ann}"), one[1]); got.status != 200 || got.head.Get("ETag") != version {
+		got := f.scim(t, one[0], ids.Replace("/Users/{ann}"), one[1])
+		if got.status != 200 || got.head.Get("ETag") != version {
 			t.Errorf("%s is answered %d, version %s", one, got.status, got.head.Get("ETag"))
 		}
 	}

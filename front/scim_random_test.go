@@ -71,7 +71,8 @@ func (m *scimModel) sameUser(id string, got scimAnswer) {
 
 func (m *scimModel) sameGroup(id string, got scimAnswer) {
 	want, there := m.groups[id]
-	if told := readGroup(got.body); there && fmt.Sprint(told) != fmt.Sprint(want) || there != (got.status == http.StatusOK) {
+	told := readGroup(got.body)
+	if there && fmt.Sprint(told) != fmt.Sprint(want) || there != (got.status == http.StatusOK) {
 		m.t.Errorf("the group %s is told as %d %s, and is %v", id, got.status, got.text, want)
 	}
 }
@@ -184,9 +185,9 @@ func sameAll(t *testing.T, f *front, models []*scimModel) {
 	})
 }
 
-// TestScimModel makes random requests by several clients while the front and the program are killed (FRONT_SCIM_REQUESTS
-// says how many): what is read is what was written, of a request without an answer all or nothing, and the table is that
-// of the rows that a model maps to.
+// TestScimModel makes random requests by several clients while the front and the program are killed
+// (FRONT_SCIM_REQUESTS says how many): what is read is what was written, of a request without an answer all or nothing,
+// and the table is that of the rows that a model maps to.
 func TestScimModel(t *testing.T) {
 	const clients = 4
 	requests, phases := number("FRONT_SCIM_REQUESTS", 2000), number("FRONT_SCIM_PHASES", 4)

@@ -17,9 +17,11 @@ const scimMapping = `{"source":"scim","module":1,"people":{"name":{"from":"userN
  "department":"urn:ietf:params:scim:schemas:extension:enterprise:2.0:User:department","role":"roles.value",
  "may":"entitlements.value","group":"groups.display","direct":"groups[type eq \"direct\"].display",
  "manager":{"from":"manager.value","named":true},"mail":"emails[type eq \"work\"].value",
- "cost":{"from":"urn:example:clinic:User:cost","type":"integer"},"hired":{"from":"urn:example:clinic:User:hired","type":"date"}}},
+ "cost":{"from":"urn:example:clinic:User:cost","type":"integer"},
+ "hired":{"from":"urn:example:clinic:User:hired","type":"date"}}},
  "extensions":[{"id":"urn:example:clinic:User","name":"Clinic","attributes":[{"name":"cost","type":"integer"},
- {"name":"hired"},{"name":"badge","type":"complex","subAttributes":[{"name":"number"},{"name":"lost","type":"boolean"}]}]}]}`
+ {"name":"hired"},
+ {"name":"badge","type":"complex","subAttributes":[{"name":"number"},{"name":"lost","type":"boolean"}]}]}]}`
 
 const (
 	userSchemaID       = "urn:ietf:params:scim:schemas:core:2.0:User"
@@ -160,7 +162,8 @@ func TestScim(t *testing.T) {
 		}
 	}
 	boss := f.made(t, "/Users", aUser("Boss", ""))
-	ann := f.made(t, "/Users", aUser("Ann", `,"roles":[{"value":"nurse"},{"value":"lead"}],"entitlements":[{"value":"x-ray"}],
+	ann := f.made(t, "/Users", aUser("Ann", `,"roles":[{"value":"nurse"},{"value":"lead"}],
+		"entitlements":[{"value":"x-ray"}],
 		"emails":[{"value":"ann@home","type":"home"},{"value":"ann@work","type":"work"}],
 		"urn:ietf:params:scim:schemas:extension:enterprise:2.0:User":{"department":"surgery","manager":{"value":"`+boss+`"}},
 		"urn:example:clinic:User":{"cost":12,"hired":"2020-02-01"}`))
@@ -171,12 +174,14 @@ func TestScim(t *testing.T) {
 	f.made(t, "/Groups", `{"displayName":"staff","members":[{"value":"`+inner+`"}]}`)
 	rows("ann", "cost=[12] department=[surgery] direct=[nurses] group=[nurses staff] hired=[2020-02-01] mail=[ann@work] "+
 		"manager=[boss] may=[x-ray] role=[lead nurse]")
-	if got := f.scim(t, http.MethodPatch, "/Users/"+boss, operations(`{"op":"replace","path":"userName","value":"Chief"}`)); got.status != 200 {
-		t.Errorf("%+v", got)
+	patch := func(path, operation string, want int) {
+		t.Helper()
+		if got := f.scim(t, http.MethodPatch, path, operations(operation)); got.status != want {
+			t.Errorf("%+v", got)
+		}
 	}
-	if got := f.scim(t, http.MethodPatch, "/Groups/"+inner, operations(`{"op":"replace","path":"displayName","value":"carers"}`)); got.status != 204 {
-		t.Errorf("%+v", got)
-	}
+	patch("/Users/"+boss, `{"op":"replace","path":"userName","value":"Chief"}`, 200)
+	patch("/Groups/"+inner, `{"op":"replace","path":"displayName","value":"carers"}`, 204)
 	listed("ann", "chief")
 	rows("ann", "cost=[12] department=[surgery] direct=[carers] group=[carers staff] hired=[2020-02-01] mail=[ann@work] "+
 		"manager=[chief] may=[x-ray] role=[lead nurse]")
@@ -188,9 +193,7 @@ func TestScim(t *testing.T) {
 		t.Errorf("%+v", got)
 	}
 	rows("ann", "role=[nurse]")
-	if got := f.scim(t, http.MethodPatch, "/Users/"+ann, operations(`{"op":"replace","path":"active","value":false}`)); got.status != 200 {
-		t.Errorf("%+v", got)
-	}
+	patch("/Users/"+ann, `{"op":"replace","path":"active","value":false}`, 200)
 	listed("chief")
 	rows("ann", "")
 	for _, want := range []int{204, 404} {

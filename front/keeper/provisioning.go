@@ -4,6 +4,7 @@ import (
 	"context"
 	"fmt"
 	"sort"
+	"strings"
 	"sync"
 	"sync/atomic"
 	"time"
@@ -21,6 +22,9 @@ const (
 	foreignPause = 3 * time.Second
 	// mostBehind is how many names are told that the table hasn't as users have them.
 	mostBehind = 100
+	// behindPause is how often some of them are tried again, and triedAgain how many at a time.
+	behindPause = 5 * time.Second
+	triedAgain  = 100
 	// provisionAhead is how many edits are on their way at once.
 	provisionAhead = 64
 )
@@ -35,14 +39,15 @@ type provisioning struct {
 	due      map[string]time.Time // users whom another front's records touched, and when it is looked
 	by       map[string]string    // who touched the user of a name last
 	retry    map[string]bool      // names that are looked at again
+	tried    time.Time            // when some of those behind were
 	done     atomic.Uint64        // the serial of the record up to which the table is as users are
 	reached  *progress
 }
 
 func newProvisioning(k *Keeper) *provisioning {
 	p := &provisioning{
-		keeper: k, behind: map[string]string{}, due: map[string]time.Time{}, by: map[string]string{}, retry: map[string]bool{},
-		reached: &progress{},
+		keeper: k, behind: map[string]string{}, due: map[string]time.Time{}, by: map[string]string{},
+		retry: map[string]bool{}, reached: &progress{},
 	}
 	if k.Provision != nil {
 		p.follower = provision.NewFollower(k.Provision, k.Scim)
@@ -136,10 +141,7 @@ func (p *provisioning) round(ctx context.Context, all bool) {
 			p.by[name] = by
 		}
 	}
-	for name := range p.retry {
-		names[name] = true
-	}
-	p.retry = map[string]bool{}
+	p.again(names, now)
 	only := names
 	if all {
 		only = nil
@@ -153,6 +155,31 @@ func (p *provisioning) round(ctx context.Context, all bool) {
 	}
 	p.reached.moved()
 }
+
+// again adds names that are looked at again: soon where nobody could be asked, and from time to time some that the table
+// refused.
+func (p *provisioning) again(names map[string]bool, now time.Time) {
+	for name := range p.retry {
+		names[name] = true
+	}
+	p.retry = map[string]bool{}
+	if now.Sub(p.tried) < behindPause {
+		return
+	}
+	p.tried = now
+	p.mutex.Lock()
+	defer p.mutex.Unlock()
+	count := 0
+	for name := range p.behind {
+		if !isFault(name) && count < triedAgain {
+			names[name] = true
+			count++
+		}
+	}
+}
+
+// isFault says whether something stands for the id of a user who has no name.
+func isFault(name string) bool { return strings.HasPrefix(name, "#") }
 
 // whoOf is who touched users, where that is one alone.
 func whoOf(about map[string]string) string {
@@ -252,13 +279,13 @@ func failure(reply Reply) (why string, again bool) {
 
 // fails keeps that the table hasn't what a user has.
 func (p *provisioning) fails(of edit, why string, again bool) {
-	if again {
-		p.retry[of.name] = true
-	} else {
-		p.keeper.Log.Error("the table hasn't what a user of SCIM has", "name", of.name, "line", string(of.line), "why", why)
-	}
 	p.mutex.Lock()
 	defer p.mutex.Unlock()
+	if again {
+		p.retry[of.name] = true
+	} else if p.behind[of.name] != why {
+		p.keeper.Log.Error("the table hasn't what a user of SCIM has", "name", of.name, "line", string(of.line), "why", why)
+	}
 	p.behind[of.name] = why
 }
 
@@ -267,7 +294,7 @@ func (p *provisioning) tellBehind() {
 	p.mutex.Lock()
 	defer p.mutex.Unlock()
 	for name := range p.behind {
-		if len(name) > 0 && name[0] == '#' {
+		if isFault(name) {
 			delete(p.behind, name)
 		}
 	}
@@ -291,7 +318,7 @@ func (k *Keeper) Behind() ([]Behind, int) {
 	var all []Behind
 	for name, why := range p.behind {
 		one := Behind{Name: name, Why: why}
-		if name[0] == '#' {
+		if isFault(name) {
 			one = Behind{ID: name[1:], Why: why}
 		}
 		all = append(all, one)

@@ -32,8 +32,8 @@ func provisionOf(l []byte) *act {
 	return &act{scim: record, refused: err}
 }
 
-// Record has a record of SCIM judged at its place, and waits for what becomes of it: for its serial, once it is on disk.
-// Where more people would go by it than may, provisioning is held from then on.
+// Record has a record of SCIM judged at its place, and waits for what becomes of it: for its serial, once it is on
+// disk. Where more people would go by it than may, provisioning is held from then on.
 func (k *Keeper) Record(ctx context.Context, record *scim.Record, by string) (uint64, error) {
 	serial, err := k.record(ctx, record, by)
 	var refused *scim.Error

@@ -182,8 +182,8 @@ func wrongAttributes(all []*scim.Attribute, outer bool) error {
 	return nil
 }
 
-// entity is the name and rows of a user, or nil where the account isn't in use. `names` gives the name of the user of an
-// id, or nothing.
+// entity is the name and rows of a user, or nil where the account isn't in use. `names` gives the name of the user of
+// an id, or nothing.
 func (m *Mapping) entity(v scim.View, names func(id string) string) (*values.Entity, error) {
 	if !v.Active {
 		return nil, nil

@@ -47,7 +47,8 @@ func rowsBy(random *rand.Rand, count int) []aRow {
 			hired: pick("", "2020-01-01T00:00:00Z", "2020-01-01T01:00:00+01:00", "2021-06-01T12:00:00.5Z"),
 		}
 		for j := 0; j < random.Intn(3); j++ {
-			one.mails = append(one.mails, aMail{value: pick("a@x", "B@x", "c@y"), kind: pick("", "work", "home"), primary: j == 0})
+			mail := aMail{value: pick("a@x", "B@x", "c@y"), kind: pick("", "work", "home"), primary: j == 0}
+			one.mails = append(one.mails, mail)
 		}
 		all = append(all, one)
 	}
@@ -179,8 +180,8 @@ func leafBy(random *rand.Rand) asked {
 		than := time.Date(2020, 1, 1, 0, 0, random.Intn(2), 0, time.UTC)
 		return asked{fmt.Sprintf("hired %s %q", op, than.Format(time.RFC3339)), func(r aRow) bool {
 			at, err := time.Parse(time.RFC3339, r.hired)
-			return err == nil && (at.Before(than) && (op == "lt" || op == "le") || at.After(than) && (op == "gt" || op == "ge") ||
-				at.Equal(than) && op != "lt" && op != "gt")
+			return err == nil && (at.Before(than) && (op == "lt" || op == "le") ||
+				at.After(than) && (op == "gt" || op == "ge") || at.Equal(than) && op != "lt" && op != "gt")
 		}}
 	case 7:
 		return asked{"title " + []string{"eq", "EQ"}[random.Intn(2)] + " null", func(r aRow) bool { return r.title == "" }}
@@ -249,7 +250,7 @@ func TestFilters(t *testing.T) {
 		apply(t, table, d, rows[i].id, nil)
 	}
 	some := 0
-	for try := 0; try < 20_000; try++ {
+	for try := 0; try < 5000; try++ {
 		f := filterBy(random, 3)
 		page, err := table.Ask(kinds, Query{Kinds: []*Kind{kinds.User}, Filter: f.text, Start: 1, Count: 1000}, "")
 		if err != nil {
@@ -271,7 +272,7 @@ func TestFilters(t *testing.T) {
 			some++
 		}
 	}
-	if some < 5000 {
+	if some < 1200 {
 		t.Errorf("only %d filters mean some", some)
 	}
 }
@@ -331,7 +332,8 @@ func TestPages(t *testing.T) {
 				ids = append(ids, row.id)
 			}
 			for start := 1; start <= len(rows); start += 10 {
-				page, err := table.Ask(kinds, Query{Kinds: []*Kind{kinds.User}, SortBy: by, Descending: down, Start: start, Count: 10}, "")
+				q := Query{Kinds: []*Kind{kinds.User}, SortBy: by, Descending: down, Start: start, Count: 10}
+				page, err := table.Ask(kinds, q, "")
 				if err != nil || page.Total != len(rows) {
 					t.Fatal(page, err)
 				}

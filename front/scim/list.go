@@ -30,17 +30,19 @@ type Page struct {
 
 // Ask lists what a query means.
 func (t *Table) Ask(kinds *Kinds, q Query, base string) (*Page, error) {
-	var all []View
+	var all []*Resource
 	for _, kind := range q.Kinds {
-		some, err := t.those(kinds, kind, q, base)
+		some, err := t.those(kinds, kind, q)
 		if err != nil {
 			return nil, err
 		}
-		all = append(all, some...)
+		if all = append(all, some...); len(q.Kinds) == 1 {
+			all = some
+		}
 	}
 	page := &Page{Total: len(all), Start: q.Start}
 	if q.SortBy != "" && q.Count > 0 {
-		if err := sorted(all, q); err != nil {
+		if err := t.sorted(kinds, all, q); err != nil {
 			return nil, err
 		}
 	}
@@ -48,22 +50,18 @@ func (t *Table) Ask(kinds *Kinds, q Query, base string) (*Page, error) {
 		if all = all[from:]; len(all) > q.Count {
 			all = all[:q.Count]
 		}
-		page.Views = all
+		for _, one := range all {
+			page.Views = append(page.Views, t.View(kinds, one, base))
+		}
 	}
 	return page, nil
 }
 
 // those are the resources of a kind that a filter means. Of a filter on a name, or an id, alone these aren't looked
 // through.
-func (t *Table) those(kinds *Kinds, kind *Kind, q Query, base string) ([]View, error) {
-	view := func(r *Resource) View { return View{Resource: r, kind: kind, table: t, base: base} }
+func (t *Table) those(kinds *Kinds, kind *Kind, q Query) ([]*Resource, error) {
 	if q.Filter == "" {
-		all := t.List(kind.Name)
-		views := make([]View, len(all))
-		for i, one := range all {
-			views[i] = view(one)
-		}
-		return views, nil
+		return t.List(kind.Name), nil
 	}
 	f, err := ParseFilter(kind, q.Filter)
 	if err != nil && len(q.Kinds) > 1 && hasPath(kinds, q.Filter) {
@@ -72,13 +70,14 @@ func (t *Table) those(kinds *Kinds, kind *Kind, q Query, base string) ([]View, e
 	if err != nil {
 		return nil, err
 	}
-	var views []View
+	var some []*Resource
+	v := &View{kind: kind, table: t}
 	for _, one := range t.near(kind, f) {
-		if v := view(one); f.matches(v) {
-			views = append(views, v)
+		if v.Resource = one; f.matches(v) {
+			some = append(some, one)
 		}
 	}
-	return views, nil
+	return some, nil
 }
 
 // hasPath says whether a filter is one of some kind.
@@ -121,8 +120,8 @@ func (t *Table) near(kind *Kind, f Filter) []*Resource {
 }
 
 // sorted puts resources into the order of an attribute. Those without it come last, or first where the order goes down.
-func sorted(all []View, q Query) error {
-	paths := map[*Kind]Path{}
+func (t *Table) sorted(kinds *Kinds, all []*Resource, q Query) error {
+	paths := map[string]Path{}
 	for _, kind := range q.Kinds {
 		p, err := kind.path(q.SortBy)
 		if err != nil && len(q.Kinds) > 1 {
@@ -131,54 +130,52 @@ func sorted(all []View, q Query) error {
 		if err != nil || p.Attr == nil || p.leaf() == nil {
 			return wrong(InvalidPath, "there is no order by %.200q", q.SortBy)
 		}
-		paths[kind] = p
+		paths[kind.Name] = p
 	}
 	keys := make([]sortKey, len(all))
-	for i, v := range all {
-		keys[i] = sortKey{at: i}
-		if p, ok := paths[v.kind]; ok {
-			keys[i].of(p, v)
+	for i, one := range all {
+		keys[i].of = one
+		keys[i].at = i
+		if p, ok := paths[one.Kind]; ok {
+			keys[i].take(p, View{Resource: one, kind: kinds.Of(one.Kind), table: t})
 		}
 	}
-	sort.SliceStable(keys, func(i, j int) bool {
+	sort.Slice(keys, func(i, j int) bool {
+		order := keys[i].order(&keys[j])
 		if q.Descending {
-			i, j = j, i
+			order = -order
 		}
-		return keys[i].less(keys[j])
+		return order < 0 || order == 0 && keys[i].at < keys[j].at
 	})
-	views := make([]View, len(all))
-	for i, key := range keys {
-		views[i] = all[key.at]
+	for i := range keys {
+		all[i] = keys[i].of
 	}
-	copy(all, views)
 	return nil
 }
 
 // sortKey is by what a resource is sorted.
 type sortKey struct {
+	of     *Resource
 	at     int
 	has    bool
 	text   string
 	number float64
 }
 
-// of takes the value of an attribute: of several the preferred one, or the first.
-func (s *sortKey) of(p Path, v View) {
-	values := listed(v.of(p.Schema, p.Attr))
-	for _, one := range values {
-		if some, is := one.(map[string]any); is && some["primary"] == true {
-			values = []any{one}
-			break
+// take takes the value of an attribute: of several the preferred one, or the first.
+func (s *sortKey) take(p Path, v View) {
+	value := v.of(p.Schema, p.Attr)
+	if all, many := value.([]any); many {
+		value = preferred(all)
+	}
+	part := p.Sub
+	for some, is := value.(map[string]any); is; some, is = value.(map[string]any) {
+		if part == nil {
+			part = p.leaf()
 		}
+		value, part = some[part.Name], nil
 	}
-	if len(values) == 0 {
-		return
-	}
-	leaves := p.leaves(values[0])
-	if len(leaves) == 0 {
-		return
-	}
-	switch some := leaves[0].(type) {
+	switch some := value.(type) {
 	case string:
 		s.has, s.text = true, some
 		if !p.leaf().CaseExact {
@@ -193,12 +190,28 @@ func (s *sortKey) of(p Path, v View) {
 	}
 }
 
-func (s sortKey) less(other sortKey) bool {
-	switch {
-	case s.has != other.has:
-		return s.has
-	case s.number != other.number:
-		return s.number < other.number
+// preferred is the preferred one of some values, or the first.
+func preferred(all []any) any {
+	for _, one := range all {
+		if some, is := one.(map[string]any); is && some["primary"] == true {
+			return one
+		}
 	}
-	return s.text < other.text
+	if len(all) == 0 {
+		return nil
+	}
+	return all[0]
+}
+
+// order is the order of two.
+func (s *sortKey) order(other *sortKey) int {
+	switch {
+	case s.has && !other.has:
+		return -1
+	case !s.has && other.has:
+		return 1
+	case s.number != other.number:
+		return sign(s.number, other.number)
+	}
+	return strings.Compare(s.text, other.text)
 }

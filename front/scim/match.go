@@ -49,25 +49,40 @@ func (v inValues) matches(of source) bool {
 
 // matches says whether one of the values is so; by `ne`, whether none is equal.
 func (c compared) matches(of source) bool {
-	some := false
-	for _, value := range listed(of.of(c.path.Schema, c.path.Attr)) {
-		for _, one := range c.path.leaves(value) {
-			some = some || present(one)
-			if c.op != "pr" && c.value != nil && c.is(one) {
-				return c.op != "ne"
-			}
-		}
-	}
+	is, some := c.any(of.of(c.path.Schema, c.path.Attr), c.path.Sub)
 	switch {
 	case c.op == "pr":
 		return some
 	case c.value == nil:
 		return some == (c.op == "ne")
 	}
-	return c.op == "ne"
+	return is != (c.op == "ne")
 }
 
-// leaves are what is looked at of a value of the attribute: by `pr` all of it where it has no part `value`.
+// any says whether a value compares so, or one of several, and whether there is one; of a part, where one is named.
+func (c compared) any(value any, part *Attribute) (is, some bool) {
+	switch values := value.(type) {
+	case nil:
+		return false, false
+	case []any:
+		for _, one := range values {
+			met, there := c.any(one, part)
+			is, some = is || met, some || there
+		}
+		return is, some
+	case map[string]any:
+		if part != nil {
+			return c.any(values[part.Name], nil)
+		}
+		if leaf := c.path.leaf(); leaf != nil {
+			return c.any(values[leaf.Name], nil)
+		}
+		return false, len(values) > 0
+	}
+	return c.value != nil && c.is(value), present(value)
+}
+
+// leaves are what is compared of a value of the attribute.
 func (p Path) leaves(value any) []any {
 	if p.Sub != nil {
 		some, is := value.(map[string]any)
@@ -154,6 +169,9 @@ func (c compared) text(some string) bool {
 		return err == nil && bad == nil && c.ordered(orderOf(one, other))
 	}
 	with, _ := c.value.(string)
+	if !c.exact && (c.op == "eq" || c.op == "ne") {
+		return strings.EqualFold(some, with)
+	}
 	if !c.exact {
 		some, with = strings.ToLower(some), c.low
 	}

@@ -49,7 +49,8 @@ func (s *Server) scimRoutes() []route {
 		path := "/scim/v2" + kind.Endpoint
 		all = append(all, route{http.MethodPost, path + "/.search", s.scimSearch([]*scim.Kind{kind})},
 			route{http.MethodGet, path, s.scimList(kind)}, route{http.MethodPost, path, s.scimCreate(kind)},
-			route{http.MethodGet, path + "/{id}", s.scimRead(kind)}, route{http.MethodPut, path + "/{id}", s.scimWrite(kind, false)},
+			route{http.MethodGet, path + "/{id}", s.scimRead(kind)},
+			route{http.MethodPut, path + "/{id}", s.scimWrite(kind, false)},
 			route{http.MethodPatch, path + "/{id}", s.scimWrite(kind, true)},
 			route{http.MethodDelete, path + "/{id}", s.scimDelete(kind)})
 	}

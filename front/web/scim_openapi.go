@@ -12,7 +12,7 @@ var scimOperations = func() map[string]operation {
 		"GET /scim/v2/ResourceTypes/{name}":  scimTelling("Tells of a type of resources.", "endpoint"),
 		"POST /scim/v2/.search":              scimTaking("Finds users and groups.", "Resources"),
 		"POST /scim/v2/Bulk":                 {does: "There is no bulk here.", takes: []string{scimType}},
-		"GET " + holdPath:                    telling("Tells whether provisioning is held, and what the table hasn't.", "held"),
+		"GET " + holdPath:                    telling("Tells whether provisioning is held.", "held"),
 		"POST " + holdPath:                   taking("Holds provisioning.", "held"),
 		"DELETE " + holdPath:                 {does: "Lets provisioning on.", done: http.StatusNoContent},
 	}
