@@ -148,6 +148,8 @@ func (p *provisioning) round(ctx context.Context, all bool) {
 	}
 	if all || len(names) > 0 {
 		p.make(ctx, p.follower.Plan(only), whoOf(about))
+	}
+	if all || len(ids) > 0 {
 		p.tellBehind()
 	}
 	if upTo > p.done.Load() {

@@ -117,6 +117,9 @@ func (r route) match(parts []string) (map[string]string, bool) {
 			}
 			continue
 		}
+		if parts[i] == searchPart && strings.HasPrefix(r.path, scimPrefix) {
+			return nil, false
+		}
 		if keys == nil {
 			keys = map[string]string{}
 		}

@@ -16,6 +16,8 @@ const (
 	scimPrefix = "/scim/v2/"
 	scimType   = "application/scim+json"
 	holdPath   = "/scim/hold"
+	// searchPart ends the paths of searches, and is no id.
+	searchPart = ".search"
 	// scimPage is how many resources a list has where nothing is said, and mostScimPage how many at most.
 	scimPage     = 100
 	mostScimPage = 1000
