@@ -21,6 +21,11 @@ cd "$aside/front"
 # of a folder, the time of a start, what listeners take, askers, edits that are made behind a serial or whole, requests
 # that are translated, AuthZEN, Kubernetes, kept decisions, who may what, a log of several fronts, what edits changed,
 # earlier states, the chain, what proxies ask, campaigns, and sources.
+# earlier states, the chain, and what proxies ask.
+# that are translated, AuthZEN, kept decisions, who may what, a log of several fronts, what edits changed, earlier states,
+# the chain, what proxies ask, and campaigns.
+# that are translated, AuthZEN, Kubernetes, kept decisions, who may what, a log of several fronts, what edits changed, earlier states,
+# the chain, sources, and SCIM.
 grep -e "${2:-}" >"$aside/rows" <<'ROWS'
 folder/writing.go . TestOrder s/^\t\terr = f\.sync(f\.current)$/\t\terr = nil/
 folder/writing.go . TestOrder s/^\t\terr = file\.Sync()$/\t\terr = nil/
@@ -261,6 +266,27 @@ web/ids.go . TestByRule s/if told != nil || stored\[asked\.Policy\] {/if true {/
 web/ids.go web TestElementIDs s/range e\.PolicySet\.Children {/range e.PolicySet.Children[:0] {/
 folder/writing.go . TestCampaignKept s/format > chainedFrom \&\& f\.format < format || campaigns/campaigns \&\& f.format < 0 || campaigns \&\& f.format > 3/
 folder/writing.go . TestCampaignKept s/format > chainedFrom \&\& f\.format < format || campaigns \&\& !f\.reviews {/false {/
+folder/writing.go . TestScimRecords s/format > chainedFrom \&\& f\.format < format || campaigns \&\& !f\.reviews {/false {/
+folder/snapshot.go . TestScimKept s/len(snapshot\.Records), chainedFrom$/0, chainedFrom/
+keeper/snapshot.go . TestScimKept s/^\tif snapshot\.Records, err = k\.scimAt(reply\.Serial); err != nil {$/\tif err != nil {/
+keeper/scim.go . TestScimRestored s/^\t\tcase entry\.Serial > serial:$/\t\tcase false:/
+keeper/scim.go . TestScimHold s/errors\.As(err, \&refused) \&\& refused\.Excess {/false {/
+keeper/provisioning.go . TestScimBehind s/!isFault(name) \&\& count < triedAgain {/false {/
+keeper/provisioning.go . TestScimModel s/^\t\t\tp\.keeper\.Scim\.TouchAll()$//
+keeper/losing.go . TestScimHoldPermits s/^\tif holding\.Held != nil || holding\.Free != nil {$/\tif true {/
+keeper/streamed.go . TestLogScim s/^\tif scim\.IsRecord(edit\.Line) {$/\tif false {/
+scim/table.go . TestScimHold s/r\.Time\.Before(t\.free) {/false {/
+scim/kept.go . TestScimHold s/Held: t\.held, Gone: t\.gone}/Gone: t.gone}/
+scim/table.go . TestScimTogether s/^\tcase there\.Serial != r\.Of:$/\tcase false:/
+scim/table.go . TestScimWrong s/id != "" \&\& id != r\.ID {/false {/
+scim/members.go . TestScim s/^\t\t\tt\.touch(r, id)$//
+scim/filter.go scim TestFilters s/if all = append(all, one); !p\.takes("and") {/if all = append(all, one); !p.takes("or") {/
+scim/match.go scim TestFilters s/return is != (c\.op == "ne")/return is/
+scim/list.go scim TestPages s/order < 0 || order == 0 \&\& keys\[i\]\.at < keys\[j\]\.at/order < 0/
+scim/clean.go . TestScimWrong s/if isPassword(name) {/if false {/
+provision/follower.go . TestScim s/^\t\tif before != after {$/\t\tif false {/
+web/scim_write.go . TestScimExamples s/names != "" \&\& !hasVersion(names, from) {/false {/
+web/scim_write.go . TestScimRoles s/^\t\tif !ok || !s\.mayScim(w, r, "scim\.write", kind\.Name, keys\["id"\]) {$/\t\tif !ok {/
 ROWS
 tests=$(awk '{ print "^" $3 "$" }' "$aside/rows" | sort -u | paste -sd '|')
 ./build.sh go test -count=1 -run "$tests" ./... >"$aside/said" 2>&1 || { cat "$aside/said"; exit 1; }

@@ -8,7 +8,9 @@ import (
 	"path/filepath"
 	"sort"
 	"strings"
+	"sync"
 	"testing"
+	"time"
 )
 
 // resources are all users and groups as they are told, but for where they are.
@@ -173,6 +175,32 @@ func TestScimBehind(t *testing.T) {
 	eventually(t, "cat is in the table", func() bool { return fmt.Sprint(f.people(t)) == "[bob cat]" && read() == "[]" })
 }
 
+// TestScimTogether has several clients change one user at once: no change is lost.
+func TestScimTogether(t *testing.T) {
+	f := provisioned(t, t.TempDir())
+	id := f.made(t, "/Users", aUser("ann", ""))
+	const clients, each = 6, 10
+	var all sync.WaitGroup
+	for client := 0; client < clients; client++ {
+		all.Add(1)
+		go func(client int) {
+			defer all.Done()
+			for i := 0; i < each; i++ {
+				role := fmt.Sprintf(`{"op":"add","path":"roles","value":"r%d-%d"}`, client, i)
+				for try := 0; try < 20; try++ { // behind ten tries it is 412
+					if got, err := f.tryScim("PATCH", "/Users/"+id, operations(role)); err == nil && got.status == 200 {
+						break
+					}
+				}
+			}
+		}(client)
+	}
+	all.Wait()
+	if got := asList(f.scim(t, "GET", "/Users/"+id, "").body["roles"]); len(got) != clients*each {
+		t.Errorf("of %d roles there are %d", clients*each, len(got))
+	}
+}
+
 // TestScimHold has more people go than may: that is refused and provisioning held, also behind a start, until somebody
 // lets it on.
 func TestScimHold(t *testing.T) {
@@ -231,6 +259,38 @@ func TestScimHold(t *testing.T) {
 		t.Errorf("holding it without a word is answered %+v", got)
 	}
 	want("what is held by hand", f.scim(t, "POST", "/Users", aUser("yan", "")), 503)
+}
+
+// TestScimHoldPermits has rows of one user go by which more Permits are lost than may be: what is so is so, and
+// provisioning is held behind it, until somebody lets it on. A user with another name loses none.
+func TestScimHoldPermits(t *testing.T) {
+	mapping := strings.Replace(scimMapping, `"module":1`, `"module":0`, 1)
+	f := begin(t, t.TempDir(), "--scim", scimFile(t, mapping), "--scim-at-most", "3%")
+	f.accept(clinic(t)...)
+	nurse := f.made(t, "/Users", aUser("zoe", `,"roles":["nurse"]`))
+	holds := func() bool { return f.metric("review_front_scim_held") == 1 }
+	f.scim(t, "PATCH", "/Users/"+nurse, operations(`{"op":"replace","path":"userName","value":"zora"}`))
+	// Hana is a doctor by the clinic, and by SCIM nothing: it takes her role away.
+	hana := f.made(t, "/Users", aUser("hana", `,"roles":["doctor","trainee"]`))
+	time.Sleep(1500 * time.Millisecond)
+	if holds() {
+		t.Fatalf("it is held: %s", f.must("/scim/hold"))
+	}
+	got := f.scim(t, "PATCH", "/Users/"+hana, operations(`{"op":"remove","path":"roles"}`))
+	if got.status != 200 {
+		t.Fatal(got.text)
+	}
+	eventually(t, "it is held", holds)
+	if told := f.must("/scim/hold"); !strings.Contains(told, "Permits were lost within 1h0m0s") {
+		t.Errorf("it is told as %s", told)
+	}
+	if got := f.scim(t, "POST", "/Users", aUser("yan", "")); got.status != 503 {
+		t.Errorf("%d %s", got.status, got.text)
+	}
+	f.send(t, http.MethodDelete, "/scim/hold", "")
+	if got := f.scim(t, "POST", "/Users", aUser("yan", "")); got.status != 201 {
+		t.Errorf("%d %s", got.status, got.text)
+	}
 }
 
 // TestScimRoles has users of several roles ask for SCIM's paths: those who have no role with it get 403, and who isn't

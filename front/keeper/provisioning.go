@@ -40,14 +40,16 @@ type provisioning struct {
 	by       map[string]string    // who touched the user of a name last
 	retry    map[string]bool      // names that are looked at again
 	tried    time.Time            // when some of those behind were
-	done     atomic.Uint64        // the serial of the record up to which the table is as users are
+	renamed  map[string]bool      // names that users had, who have others now
+	losing   *losing
+	done     atomic.Uint64 // the serial of the record up to which the table is as users are
 	reached  *progress
 }
 
 func newProvisioning(k *Keeper) *provisioning {
 	p := &provisioning{
 		keeper: k, behind: map[string]string{}, due: map[string]time.Time{}, by: map[string]string{},
-		retry: map[string]bool{}, reached: &progress{},
+		retry: map[string]bool{}, reached: &progress{}, losing: &losing{keeper: k, own: map[uint64]bool{}},
 	}
 	if k.Provision != nil {
 		p.follower = provision.NewFollower(k.Provision, k.Scim)
@@ -135,7 +137,8 @@ func (p *provisioning) round(ctx context.Context, all bool) {
 		}
 	}
 	sort.Strings(ids)
-	names := p.follower.Again(ids)
+	names, renamed := p.follower.Again(ids)
+	p.renamed = renamed
 	for name := range names {
 		if by := about[p.follower.ID(name)]; by != "" {
 			p.by[name] = by
@@ -212,7 +215,7 @@ func (p *provisioning) make(ctx context.Context, changes []differ.Change, who st
 			lines = lines[:len(lines)-1]
 		}
 		for _, l := range lines {
-			first = append(first, edit{name: name, by: by(name), line: l})
+			first = append(first, edit{name: name, by: by(name), line: l, renames: p.renamed[name]})
 		}
 	}
 	failed := p.send(ctx, first)
@@ -239,6 +242,7 @@ func (p *provisioning) make(ctx context.Context, changes []differ.Change, who st
 type edit struct {
 	name, by string
 	line     []byte
+	renames  bool // its user has another name now
 }
 
 // send makes edits, and gives the names of which one isn't made.
@@ -260,6 +264,8 @@ func (p *provisioning) send(ctx context.Context, edits []edit) map[string]bool {
 			if why, again := failure(reply); why != "" {
 				failed[one.name] = true
 				p.fails(one, why, again)
+			} else if told, ok := line.ReadAccepted(reply.Body); ok && !one.renames {
+				p.losing.made(told.Serial)
 			}
 		}
 	}

@@ -144,7 +144,7 @@ func (s *Started) Run(ctx context.Context) error {
 	defer stop()
 	background, cancel := context.WithCancel(ctx)
 	var done sync.WaitGroup
-	done.Add(11)
+	done.Add(12)
 	var differs error
 	go func() {
 		defer done.Done()
@@ -187,6 +187,10 @@ func (s *Started) Run(ctx context.Context) error {
 	go func() {
 		defer done.Done()
 		k.provisioning.run(background)
+	}()
+	go func() {
+		defer done.Done()
+		k.provisioning.losing.run(background)
 	}()
 	var damage error
 	go func() {

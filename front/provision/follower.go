@@ -100,9 +100,10 @@ func (f *Follower) set(entity served.Entity, row served.Row) {
 	}
 }
 
-// Again looks which names and rows users have now, and gives the names that may differ from what the table has.
-func (f *Follower) Again(ids []string) map[string]bool {
-	due := map[string]bool{}
+// Again looks which names and rows users have now, and gives the names that may differ from what the table has, and those
+// whose users have others now.
+func (f *Follower) Again(ids []string) (due, renamed map[string]bool) {
+	due, renamed = map[string]bool{}, map[string]bool{}
 	seen := map[string]bool{}
 	for len(ids) > 0 {
 		id := ids[0]
@@ -112,6 +113,9 @@ func (f *Follower) Again(ids []string) map[string]bool {
 		seen[id] = true
 		before := f.names[id]
 		after := f.again(id, due)
+		if before != "" && after != "" && before != after {
+			renamed[before] = true
+		}
 		if before != after {
 			for one := range f.by[id] {
 				ids, seen[one] = append(ids, one), false
@@ -125,7 +129,7 @@ func (f *Follower) Again(ids []string) map[string]bool {
 			}
 		}
 	}
-	return due
+	return due, renamed
 }
 
 // again looks at one user, and gives the name.
