@@ -265,12 +265,12 @@ func TestScimHold(t *testing.T) {
 // provisioning is held behind it, until somebody lets it on. A user with another name loses none.
 func TestScimHoldPermits(t *testing.T) {
 	mapping := strings.Replace(scimMapping, `"module":1`, `"module":0`, 1)
-	f := begin(t, t.TempDir(), "--scim", scimFile(t, mapping), "--scim-at-most", "3%")
+	f := begin(t, t.TempDir(), "--scim", scimFile(t, mapping), "--scim-at-most", "5%")
 	f.accept(clinic(t)...)
 	nurse := f.made(t, "/Users", aUser("zoe", `,"roles":["nurse"]`))
 	holds := func() bool { return f.metric("review_front_scim_held") == 1 }
 	f.scim(t, "PATCH", "/Users/"+nurse, operations(`{"op":"replace","path":"userName","value":"zora"}`))
-	// Hana is a doctor by the clinic, and by SCIM nothing: it takes her role away.
+	// Hana is listed by the clinic, and hers is the mark of SCIM from now on.
 	hana := f.made(t, "/Users", aUser("hana", `,"roles":["doctor","trainee"]`))
 	time.Sleep(1500 * time.Millisecond)
 	if holds() {
