@@ -287,6 +287,13 @@ scim/clean.go . TestScimWrong s/if isPassword(name) {/if false {/
 provision/follower.go . TestScim s/^\t\tif before != after {$/\t\tif false {/
 web/scim_write.go . TestScimExamples s/names != "" \&\& !hasVersion(names, from) {/false {/
 web/scim_write.go . TestScimRoles s/^\t\tif !ok || !s\.mayScim(w, r, "scim\.write", kind\.Name, keys\["id"\]) {$/\t\tif !ok {/
+web/access.go . TestWhoami s/ || isDesk(r) {$/ {/
+web/server.go . TestDeskFromElsewhere s/ \&\& !isDesk(r) {/ {/
+web/desk.go . TestDesk s/^\thead\.Set("Content-Security-Policy".*$//
+web/desk.go . TestDesk s/ \&\& !isNever(how) {/ {/
+web/whoami.go . TestWhoami s/if who\.May(command) {/if true {/
+web/digest.go . TestDigest s/^\t\trest = reply\.Rest\.Reader()$/\t\trest = strings.NewReader("")/
+web/documents.go . TestDocumentCheck s/Atoi(string(found\[1\]))/Atoi(string(found[2]))/
 ROWS
 tests=$(awk '{ print "^" $3 "$" }' "$aside/rows" | sort -u | paste -sd '|')
 ./build.sh go test -count=1 -run "$tests" ./... >"$aside/said" 2>&1 || { cat "$aside/said"; exit 1; }

@@ -45,6 +45,8 @@ var sent = map[string][2]string{
 	"POST /access/v1/search/resource":        {"/access/v1/search/resource", todoQuestion},
 	"GET /.well-known/authzen-configuration": {"/.well-known/authzen-configuration", ""},
 	"GET /notices":                           {"/notices", ""},
+	"GET /desk/{file}":                       {"/desk/main.js", ""},
+	"POST /documents/check":                  {"/documents/check", "{}"},
 	"GET /campaigns/{campaign}/events":       {"/campaigns/q4/events", ""},
 	"POST /campaigns":                        {"/campaigns", `{"name":"q4","scope":{},"reviewers":[{"name":"rita"}]}`},
 	"POST /campaigns/{campaign}/keep":        {"/campaigns/q4/keep", `{"items":[0],"digest":"no"}`},

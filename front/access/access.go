@@ -30,6 +30,16 @@ type Identity struct {
 	Until  time.Time           // when the time of his token is over; zero: it has none
 	Person string              // which listed person he is, if that is known
 	may    map[string]bool
+	roles  map[string]bool
+}
+
+// Roles are those that he has.
+func (i *Identity) Roles() []string {
+	roles := []string{}
+	for role := range i.roles {
+		roles = append(roles, role)
+	}
+	return roles
 }
 
 // May says whether he may send a command, or ask for what stands under such a word.
@@ -175,7 +185,7 @@ func (k *known) byClaims(claims map[string][]string, until time.Time) (*Identity
 	if k.names[looks(claims["sub"][0])] {
 		return nil, ErrTaken
 	}
-	who := &Identity{Name: claims["sub"][0], Claims: claims, Until: until, may: map[string]bool{}}
+	who := &Identity{Name: claims["sub"][0], Claims: claims, Until: until, may: map[string]bool{}, roles: map[string]bool{}}
 	found := false
 	for _, u := range k.users {
 		if !u.isMeant(claims) {
@@ -183,6 +193,9 @@ func (k *known) byClaims(claims map[string][]string, until time.Time) (*Identity
 		}
 		for command := range u.may {
 			who.may[command] = true
+		}
+		for _, role := range u.Roles {
+			who.roles[role] = true
 		}
 		if who.Person == "" {
 			who.Person = u.personIn(claims)

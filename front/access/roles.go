@@ -1,5 +1,7 @@
 package access
 
+import "sort"
+
 // Metrics is the word for the counts of the front, which no command tells.
 const Metrics = "metrics"
 
@@ -38,3 +40,13 @@ var commands = func() map[string]bool {
 	}
 	return all
 }()
+
+// Commands are all that a role has, in their order.
+func Commands() []string {
+	var all []string
+	for command := range commands {
+		all = append(all, command)
+	}
+	sort.Strings(all)
+	return all
+}

@@ -170,7 +170,11 @@ func (u *user) settle(roles map[string][]string) error {
 
 // identity is the user as one who asks.
 func (u user) identity() *Identity {
-	return &Identity{Name: u.Name, Claims: u.Claims, Gives: u.Gives, Person: u.Person, may: u.may}
+	roles := map[string]bool{}
+	for _, role := range u.Roles {
+		roles[role] = true
+	}
+	return &Identity{Name: u.Name, Claims: u.Claims, Gives: u.Gives, Person: u.Person, may: u.may, roles: roles}
 }
 
 // inClaim begins which person somebody is that a claim says.

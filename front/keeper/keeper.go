@@ -162,8 +162,9 @@ type Keeper struct {
 	// Campaigns has the reviews of access that the journal has.
 	Campaigns *campaigns.Table
 	// Scim has the users and groups that the journal has.
-	Scim   *scim.Table
-	ladder *ladder.Ladder
+	Scim     *scim.Table
+	ladder   *ladder.Ladder
+	checking chan struct{} // holds something while a document is checked
 
 	provisioning *provisioning
 	streamed     *streamed // nil without a stream
@@ -197,7 +198,7 @@ func New(options Options) *Keeper {
 	k := &Keeper{
 		Options: options, Sessions: sessions.NewTable(options.MostSessions), Notices: notices.NewHub(options.Kept.Recent),
 		Keys: keys.New(options.Folder), Marks: marks.New(options.Folder), ladder: ladder.New(options.Kept),
-		Campaigns: campaigns.NewTable(), Scim: scim.NewTable(frontName()),
+		Campaigns: campaigns.NewTable(), Scim: scim.NewTable(frontName()), checking: make(chan struct{}, 1),
 		ready: newReadiness(), queue: make(chan *Call, options.Queue),
 		edited: make(chan struct{}, 1), asked: make(chan struct{}, 1), reached: &progress{}, long: make(chan struct{}, 1),
 	}

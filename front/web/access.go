@@ -25,7 +25,8 @@ var needs = map[string]string{
 	"/campaigns/{campaign}/items":    "campaign.items", "/campaigns/{campaign}/keep": "campaign.keep",
 	"/campaigns/{campaign}/revoke": "campaign.revoke", "/campaigns/{campaign}/pass": "campaign.pass",
 	"/campaigns/{campaign}/undo": "campaign.undo", "/campaigns/{campaign}/close": "campaign.close",
-	"/sessions": "mark", "/sessions/{session}": "mark", "/sessions/{session}/mark": "mark",
+	"/documents/check": "documents",
+	"/sessions":        "mark", "/sessions/{session}": "mark", "/sessions/{session}/mark": "mark",
 	"/sessions/{session}/notices": "notices",
 	"/access/v1/search/subject":   "cells", "/access/v1/search/action": "cells", "/access/v1/search/resource": "cells",
 }
@@ -34,14 +35,17 @@ var needs = map[string]string{
 var forKnown = map[string]bool{
 	"/": true, "/openapi.json": true, "/lines": true, "/sessions/{session}/lines": true, "/commands/{command}": true,
 	"/access/v1/evaluation": true, "/access/v1/evaluations": true, kubernetesPath: true, "/campaigns": true,
+	"/whoami": true,
 }
 
 // forAll are the paths that whoever reaches the front may ask for.
-var forAll = map[string]bool{"/healthz": true, "/readyz": true, "/.well-known/authzen-configuration": true}
+var forAll = map[string]bool{
+	"/healthz": true, "/readyz": true, "/.well-known/authzen-configuration": true, "/desk/{file}": true,
+}
 
 // admit finds out who asks. Where he isn't known it answers itself, the later the more often that was so.
 func (s *Server) admit(w *answered, r *http.Request) (*http.Request, bool) {
-	if s.Access == nil && !s.hasShown(r) || forAll[r.URL.Path] {
+	if s.Access == nil && !s.hasShown(r) || forAll[r.URL.Path] || isDesk(r) {
 		return r, true
 	}
 	visit := &visit{server: s}

@@ -10,6 +10,9 @@ import (
 
 const jsonType = "application/json"
 
+// deskTypes are those of the files of the desk.
+var deskTypes = []string{"text/javascript", "text/css", "text/html", "image/svg+xml"}
+
 // operation is what the OpenAPI document says of a path beside its method and keys.
 type operation struct {
 	does  string
@@ -28,8 +31,10 @@ var operations = map[string]operation{
 		does:  "Answers a request of XACML, or several in one.",
 		takes: []string{profileType, jsonType, xmlType}, gives: []string{profileType, xmlType}, has: "Response",
 	},
-	"GET /":             telling("Lists the paths.", "paths"),
+	"GET /":             telling("Lists the paths; a browser gets the desk.", "paths"),
 	"GET /openapi.json": telling("Describes the paths.", "openapi"),
+	"GET /desk/{file}":  {does: "Gives a file of the desk, which a browser is answered at /.", gives: deskTypes},
+	"GET /whoami":       telling("Tells who asks, and which commands he has.", "commands"),
 	"POST /lines": {
 		does: "Answers commands, one in each line. With dry it tells what they change, with whole it makes all or none. " +
 			"With strict the status says whether each was accepted, with count a last line and the field Review-Count behind " +
@@ -38,6 +43,7 @@ var operations = map[string]operation{
 		query: []string{"dry", "whole", "strict", "count", "words"},
 	},
 	"POST /commands/{command}": taking("Sends one command.", ""),
+	"POST /documents/check":    taking("Tells what is wrong with the text of a policy, each fault at its line.", "faults"),
 	"POST " + kubernetesPath:   taking("Answers a SubjectAccessReview of Kubernetes.", "status"),
 	"GET /edits": {
 		does:  "Tells edits: who made each, when, its line, and what it changed.",

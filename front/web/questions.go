@@ -111,6 +111,7 @@ func sendReply(w http.ResponseWriter, reply keeper.Reply) {
 		return
 	}
 	w.Header().Set("Content-Type", "application/json")
+	digestedReply(w, reply)
 	// Who has gone isn't told.
 	_, _ = reply.WriteTo(w)
 }

@@ -1,6 +1,7 @@
 package web
 
 import (
+	"bytes"
 	"encoding/json"
 	"errors"
 	"net/http"
@@ -9,6 +10,7 @@ import (
 	"strings"
 	"unicode/utf8"
 
+	"review-front/desk"
 	"review-front/keeper"
 )
 
@@ -26,8 +28,11 @@ func (s *Server) routes() []route {
 	all := []route{
 		{http.MethodGet, "/", s.home},
 		{http.MethodGet, "/openapi.json", s.openapi},
+		{http.MethodGet, "/desk/{file}", s.deskFile},
+		{http.MethodGet, "/whoami", s.whoami},
 		{http.MethodPost, "/lines", s.freeLines},
 		{http.MethodPost, "/commands/{command}", s.command},
+		{http.MethodPost, "/documents/check", s.checkDocument},
 		{http.MethodPost, kubernetesPath, s.kubernetes},
 		{http.MethodGet, "/notices", s.notices},
 		{http.MethodGet, "/edits", s.edits},
@@ -140,8 +145,14 @@ func (s *Server) allowed(parts []string) string {
 	return strings.Join(methods, ", ")
 }
 
-// home tells where requests are answered, as the REST Profile has it, and lists the other paths.
-func (s *Server) home(w *answered, _ *http.Request, _ map[string]string) {
+// home tells where requests are answered, as the REST Profile has it, and lists the other paths. A browser gets the
+// desk.
+func (s *Server) home(w *answered, r *http.Request, _ map[string]string) {
+	w.Header().Set("Vary", "Accept")
+	if wantsPage(r) {
+		s.sendDesk(w, r, desk.Page)
+		return
+	}
 	paths := []string{}
 	for _, route := range s.known {
 		paths = append(paths, route.method+" "+route.path)
@@ -162,8 +173,10 @@ func (s *Server) home(w *answered, _ *http.Request, _ map[string]string) {
 // sendJSON answers with JSON, and a newline for who reads it at a terminal.
 func sendJSON(w http.ResponseWriter, body []byte) {
 	w.Header().Set("Content-Type", "application/json")
+	body = append(body, '\n')
+	digested(w, bytes.NewReader(body))
 	// Who has gone isn't told.
-	_, _ = w.Write(append(body, '\n'))
+	_, _ = w.Write(body)
 }
 
 // health says that the front runs.

@@ -257,7 +257,7 @@ func (s *Server) answer(w *answered, r *http.Request) string {
 		s.check(w, r)
 		return check.Path
 	}
-	if s.Hosts.elsewhere(r) {
+	if s.Hosts.elsewhere(r) && !isDesk(r) { // a link to the desk may stand anywhere
 		problem{Title: "from another site", Status: http.StatusForbidden, Detail: "a page of another site asks"}.send(w)
 		return "elsewhere"
 	}

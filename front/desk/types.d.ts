@@ -1,0 +1,83 @@
+// What the desk's modules tell each other, for the type checker alone: no browser reads this file.
+
+type List = 'people' | 'actions' | 'resources';
+
+interface Entry { path: [string, string, string][]; rule: string | null }
+
+interface Given { Id: string; AttributeAssignment: { AttributeId: string; Value: unknown }[] }
+
+interface Answer { decision: string; status: string; why: Entry[]; obligations: Given[]; advice: Given[] }
+
+interface Cell extends Answer { person: string; action: string; resource: string }
+
+interface Change { person: string; action: string; resource: string; before: string | null; after: string | null }
+
+interface Edit {
+  by: string; changed: Change[] | null; changes: number; entity: string; kind: string; line: any; more: number;
+  serial: number; time: string;
+}
+
+interface Range { after: number; last: number }
+
+interface Fact { attribute: string; datatype: string; issuer: string | null; module: number; values: unknown[] }
+
+interface Heading {
+  attribute: string; datatype: string; issuer: string | null; module: number; values: {
+    at: number[]; value: unknown }[];
+}
+
+// Some of a list: a run of places, or places one by one.
+interface Places { from?: number; count?: number; at?: number[] }
+
+// A part of the table: of each list one name, or some places, or all.
+interface Part {
+  person?: string; action?: string; resource?: string; people?: Places; actions?: Places; resources?: Places;
+  policy?: string; rule?: string | null; digests?: boolean;
+}
+
+interface Rule { path: [string, string, string][]; rule: string | null; cells: number; permits: number }
+
+interface Grant {
+  person: string; entries: Entry[]; actions: string[]; resources: string[]; cells: number;
+}
+
+// Permits, Denies, not applicable, Indeterminate.
+type Counts = [number, number, number, number];
+
+interface Totals { people: Counts[]; actions: Counts[]; resources: Counts[] }
+
+interface Side { action: string; cells: number; resource: string }
+
+interface Conflict { person: string; left: Side; right: Side }
+
+interface Cause { what: any; rule: string | null; path: [string, string, string][]; status: string }
+
+interface CauseCount {
+  cause: Cause; cells: number; indeterminate: number; first: { person: string; action: string; resource: string };
+}
+
+interface Stored { id: string; kind: string; module: number; reached: boolean; version: string; document?: any }
+
+// The lists of names as of a serial, with the place of each name.
+interface Lists {
+  people: string[]; actions: string[]; resources: string[]; serial: number;
+  places: { people: Map<string, number>; actions: Map<string, number>; resources: Map<string, number> };
+}
+
+interface Who { name: string; roles: string[]; commands: string[] }
+
+// What the open view asked: the path, and what the front says of its answer.
+interface Asked { path: string; serial: string; digest: string }
+
+// A sheet of paper: what it shows, and its rows.
+interface Sheet { title: string; filter: string[]; heads: string[]; rows: (string | number)[][]; notes?: string[] }
+
+// A view that can be opened.
+interface View {
+  title: string;
+  needs: string[];
+  show(place: HTMLElement, query: URLSearchParams, isOpen: () => boolean): Promise<void>;
+  told?(changes: Change[], serial: number): void;
+  renew?(): void;
+  sheet?(): Sheet | Promise<Sheet> | null;
+}
