@@ -148,14 +148,14 @@ func TestWhoami(t *testing.T) {
 func TestDigest(t *testing.T) {
 	f := begin(t, t.TempDir())
 	f.accept(clinic(t)...)
-	for n := 0; n < 12; n++ {
+	for n := 0; n < 30; n++ {
 		f.accept(fmt.Sprintf(`{"do":"person.add","name":"one-%d"}`, n))
 	}
 	for _, path := range []string{
 		"/counts", "/table", "/cells/ada/read/rota", "/edits?since=60", "/changes?since=60", "/counts?at=60",
 	} {
 		told := f.fetch(t, path)
-		sum := sha256.Sum256([]byte(told.body))
+		sum := sha256.Sum256([]byte(told.body + "\n"))
 		if want := "sha-256=" + base64.StdEncoding.EncodeToString(sum[:]); told.head.Get("Digest") != want {
 			t.Errorf("%s of %d bytes has %q, and is %s", path, len(told.body), told.head.Get("Digest"), want)
 		}

@@ -46,6 +46,7 @@ var sent = map[string][2]string{
 	"GET /.well-known/authzen-configuration": {"/.well-known/authzen-configuration", ""},
 	"GET /notices":                           {"/notices", ""},
 	"GET /desk/{file}":                       {"/desk/main.js", ""},
+	"GET /whoami":                            {"/whoami", ""},
 	"POST /documents/check":                  {"/documents/check", "{}"},
 	"GET /campaigns/{campaign}/events":       {"/campaigns/q4/events", ""},
 	"POST /campaigns":                        {"/campaigns", `{"name":"q4","scope":{},"reviewers":[{"name":"rita"}]}`},
