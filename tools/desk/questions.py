@@ -71,7 +71,7 @@ def ask_of_cells(trial):
     acts = Acts(trial)
     acts.choose('action', 'prescribe')
     trial.await_letters()
-    acts.click('P Permit 4', '.kind')
+    acts.click('P Permit 6', '.kind')
     acts.answered('who may prescribe', ['people by 2 resources'], '.keys', '1-who-may')
     trial.see('who they are', trial.browser.execute_script('''const { picture } = window.desk.grid, all = [];
         for (let i = 0; i < picture.rows; i += 1) all.push(picture.rowName(i));

@@ -211,7 +211,7 @@ export class Grid {
     brush.fillStyle = ink.page;
     brush.fillRect(0, 0, left, top);
     writer.write(picture.corner, 12, top - 10, { size: 12, color: ink.quiet });
-    if (left > 130) writer.write('Permits', left - 12, top - 10, { size: 12, align: 'right', color: ink.quiet });
+    if (left > 118) writer.write('Permits', left - 12, top - 10, { size: 12, align: 'right', color: ink.quiet });
     brush.fillStyle = ink.line;
     brush.fillRect(0, top - 1, width, 1);
     brush.fillRect(left - 1, 0, 1, height);
