@@ -6,13 +6,13 @@
 
 Each link in a page leads to a file of the repository, and where it names a heading, to one of that page; so does each
 path that stands in backticks (NAME stands for any, and a folder `out` is made by a build). README.md has at
-most 100 lines of at most 120 columns, and the pages in docs/ have at most 60,000 words."""
+most 100 lines of at most 120 columns, and the pages in docs/ have at most 63,000 words."""
 import pathlib
 import re
 import sys
 
 ROOT = pathlib.Path(__file__).resolve().parents[2]
-LINES, COLUMNS, WORDS = 100, 120, 60_000
+LINES, COLUMNS, WORDS = 100, 120, 63_000
 LINK = re.compile(r'\[[^\]\[]*\]\(([^)\s]+)\)')
 PATH = re.compile(r'`((?:docs|crates|tools|bench|examples|front|\.ci)/[\w./-]*\w)`')
 
