@@ -175,6 +175,48 @@ func TestScimBehind(t *testing.T) {
 	eventually(t, "cat is in the table", func() bool { return fmt.Sprint(f.people(t)) == "[bob cat]" && read() == "[]" })
 }
 
+// TestScimDisk has the disk be full while users are made: who got 503 isn't there, who was answered is, and the table has
+// their rows once there is room again.
+func TestScimDisk(t *testing.T) {
+	path := t.TempDir()
+	f := provisioned(t, path, "--patience", "500ms")
+	var names []string
+	next := func() int {
+		name := fmt.Sprintf("user%d", len(names))
+		got := f.scim(t, "POST", "/Users", aUser(name, `,"roles":["nurse"],"title":"`+strings.Repeat("x", 300)+`"`))
+		if got.status == http.StatusCreated {
+			names = append(names, name)
+		} else if got.status != http.StatusServiceUnavailable {
+			t.Fatalf("%d %s", got.status, got.text)
+		}
+		return got.status
+	}
+	same := func(what string) {
+		t.Helper()
+		eventually(t, what+": users are told", func() bool {
+			got := f.scim(t, "GET", "/Users?count=1000", "")
+			return got.status == 200 && got.body["totalResults"] == float64(len(names))
+		})
+	}
+	next()
+	limitFiles(t, f.process.Process.Pid, 24_000)
+	for next() == http.StatusCreated {
+		if len(names) == 1000 {
+			t.Fatal("the disk isn't full")
+		}
+	}
+	same("the disk is full")
+	limitFiles(t, f.process.Process.Pid, 1<<40)
+	eventually(t, "a user is taken", func() bool { return next() == http.StatusCreated })
+	table := func() bool { return len(f.people(t)) == len(names) }
+	same("there is room again")
+	eventually(t, "the table has all", table)
+	f.kill()
+	f = provisioned(t, path)
+	same("behind a kill")
+	eventually(t, "the table has all behind a kill", table)
+}
+
 // TestScimTogether has several clients change one user at once: no change is lost.
 func TestScimTogether(t *testing.T) {
 	f := provisioned(t, t.TempDir())

@@ -177,7 +177,10 @@ func (k *Keeper) cutScim() error {
 	if k.Scim.Last() <= k.Folder.Last() {
 		return nil
 	}
-	err := k.readScim(k.Scim, k.Folder.Last(), nil)
-	k.Scim.TouchAll()
-	return err
+	table := scim.NewTable("")
+	if err := k.readScim(table, k.Folder.Last(), nil); err != nil {
+		return err
+	}
+	k.Scim.Take(table)
+	return nil
 }

@@ -12,8 +12,11 @@ import (
 // errBehind says that more stands behind an object.
 var errBehind = errors.New("something stands behind the object")
 
-// mostText is how long a text is at most.
-const mostText = 65536
+const (
+	// mostText is how long a text is at most, and mostValues how many values an attribute has.
+	mostText   = 65536
+	mostValues = 1000
+)
 
 // Draft is a resource that is being made: what clients set of it, and of a group who is to be in it.
 type Draft struct {
@@ -188,7 +191,11 @@ func (a *Attribute) clean(value any) (any, error) {
 		return a.cleanOne(value)
 	}
 	var all []any
-	for _, one := range listed(value) {
+	given := listed(value)
+	if len(given) > mostValues {
+		return nil, a.tooMany()
+	}
+	for _, one := range given {
 		clean, err := a.cleanOne(one)
 		if err != nil {
 			return nil, err
@@ -200,8 +207,16 @@ func (a *Attribute) clean(value any) (any, error) {
 	return all, a.onePrimary(all)
 }
 
-// onePrimary sees that no more than one value is the preferred one.
+// tooMany says that there are more values than may be.
+func (a *Attribute) tooMany() error {
+	return wrong(InvalidValue, "%s has at most %d values", a.Name, mostValues)
+}
+
+// onePrimary sees that no more than one value is the preferred one, and that there aren't too many.
 func (a *Attribute) onePrimary(all []any) error {
+	if len(all) > mostValues {
+		return a.tooMany()
+	}
 	count := 0
 	for _, one := range all {
 		if some, is := one.(map[string]any); is && some["primary"] == true {

@@ -123,3 +123,18 @@ func (t *Table) load(one keptLine) error {
 	}
 	return nil
 }
+
+// Take takes what another table has, which nobody uses any more, in the place of all that this one has.
+func (t *Table) Take(other *Table) {
+	t.mutex.Lock()
+	defer t.mutex.Unlock()
+	for _, users := range [][]*Resource{t.kinds["User"], other.kinds["User"]} { // some may be gone
+		for _, one := range users {
+			if _, there := t.touched[one.ID]; !there {
+				t.touched[one.ID] = Touch{Serial: other.last}
+			}
+		}
+	}
+	t.all, t.kinds, t.names, t.groups, t.in = other.all, other.kinds, other.names, other.groups, other.in
+	t.last, t.held, t.gone, t.free = other.last, other.held, other.gone, other.free
+}
