@@ -7,7 +7,7 @@ fail() { echo "try_release.py: $*"; exit 1; }
 docs=/usr/share/doc/review counts='{"counts":{"Deny":37,"Indeterminate":2,"NotApplicable":349,"Permit":92}}'
 ask() { curl -sf --data-binary "$1" http://127.0.0.1:8080/lines; }
 front() {
-    /usr/sbin/runuser -u review -- /usr/bin/review-front --program /usr/lib/review/review --journal /var/lib/review \
+    /usr/sbin/runuser -u review -- /usr/bin/review-front --program /usr/lib/review/review --journal /var/lib/review "$@" \
         >/tmp/front.log 2>&1 &
     served=$!
     for _ in $(seq 200); do curl -sf http://127.0.0.1:8080/readyz >/dev/null && return; sleep 0.1; done
@@ -47,6 +47,11 @@ say "people of a file, as the page of sources says"
     sed -n '/^### CSV/,/^### JSON/s/^    //p' $docs/docs/SOURCES.md >block && sh -eu block | tail -n 1
 )
 curl -sf http://127.0.0.1:8080/can/ann >/dev/null || fail "ann isn't listed"
+say "a user by SCIM, as the example's file says"
+ended
+front --scim $docs/examples/clinic/scim.json
+curl -sf -d '{"userName":"ivana"}' http://127.0.0.1:8080/scim/v2/Users >/dev/null || fail "no user is made"
+curl -sf http://127.0.0.1:8080/can/ivana >/dev/null || fail "ivana isn't listed"
 before=$(ask '{"do":"dump"}' | sha256sum)
 ended
 say "upgraded, with the journal that stands"
