@@ -111,7 +111,7 @@ async function noAnswer() {
     [el('div', {}, name(causeWords(cause))), el('div.quiet', {}, name(pathWords(cause)))], number(cells),
     number(indeterminate), cellLink(first.person, first.action, first.resource, at, name(firstOf(first)))];
   return {
-    made: [lead(`${plural(all.length, 'cause')}; they leave ${plural(sum, 'cell')} without an answer.`),
+    made: [lead(`${plural(all.length, 'cause leaves', 'causes leave')} ${plural(sum, 'cell')} without an answer.`),
       tableOf(['Cause', '#Cells', '#Indeterminate', 'The first'], all.map(row), 'Causes')],
     paper: { title: 'Why cells have no answer', filter: [],
       heads: ['Cause', 'Where', '#Cells', '#Of these Indeterminate', 'First'],

@@ -32,7 +32,8 @@ function rowsOf(changes, at, label) {
     el('td', {}, link('person', { person: of.person, at }, name(of.person))), el('td', {}, name(of.action)),
     el('td', {}, few(resources, (resource) => link('table', {
       action: of.action, person: of.person, resource, find: of.person, at }, name(resource)))),
-    el('td', {}, decided(of.before)), el('td', {}, el('span.decided', {}, '→', decided(of.after))));
+    el('td', {}, decided(of.before)), el('td', {}, of.before === of.after
+      ? el('span.quiet', {}, 'other reasons or obligations') : el('span.decided', {}, '→', decided(of.after))));
   return [el('table.facts.moves', { 'aria-label': label }, first.map(row)),
     all.length > first.length ? el('p.quiet', {},
       `and ${number(all.length - first.length)} more rows: they are on paper`) : null];
