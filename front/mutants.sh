@@ -271,21 +271,21 @@ folder/snapshot.go . TestScimKept s/len(snapshot\.Records), chainedFrom$/0, chai
 keeper/snapshot.go . TestScimKept s/^\tif snapshot\.Records, err = k\.scimAt(reply\.Serial); err != nil {$/\tif err != nil {/
 keeper/scim.go . TestScimRestored s/^\t\tcase entry\.Serial > serial:$/\t\tcase false:/
 keeper/scim.go . TestScimHold s/errors\.As(err, \&refused) \&\& refused\.Excess {/false {/
-keeper/provisioning.go . TestScimBehind s/!isFault(name) \&\& count < triedAgain {/false {/
+keeper/provisioning.go . TestScimBehind s/\&\& count < triedAgain {/\&\& count < 0 {/
 keeper/provisioning.go . TestScimModel s/^\t\t\tp\.keeper\.Scim\.TouchAll()$//
-keeper/losing.go . TestScimHoldPermits s/^\tif holding\.Held != nil || holding\.Free != nil {$/\tif true {/
-keeper/streamed.go . TestLogScim s/^\tif scim\.IsRecord(edit\.Line) {$/\tif false {/
+keeper/losing.go . TestScimHoldPermits s/|| holding\.Free != nil {/|| holding.Free == nil {/
+keeper/streamed.go . TestLogScim s/if scim\.IsRecord(edit\.Line) {/if scim.IsRecord(edit.Line) \&\& edit.Sequence == 0 {/
 scim/table.go . TestScimHold s/r\.Time\.Before(t\.free) {/false {/
 scim/kept.go . TestScimHold s/Held: t\.held, Gone: t\.gone}/Gone: t.gone}/
 scim/table.go . TestScimTogether s/^\tcase there\.Serial != r\.Of:$/\tcase false:/
-scim/table.go . TestScimWrong s/id != "" \&\& id != r\.ID {/false {/
+scim/table.go . TestScimWrong s/id != "" \&\& id != r\.ID {/id == r.Key {/
 scim/members.go . TestScim s/^\t\t\tt\.touch(r, id)$//
 scim/filter.go scim TestFilters s/if all = append(all, one); !p\.takes("and") {/if all = append(all, one); !p.takes("or") {/
 scim/match.go scim TestFilters s/return is != (c\.op == "ne")/return is/
 scim/list.go scim TestPages s/order < 0 || order == 0 \&\& keys\[i\]\.at < keys\[j\]\.at/order < 0/
 scim/clean.go . TestScimWrong s/if isPassword(name) {/if false {/
 provision/follower.go . TestScim s/^\t\tif before != after {$/\t\tif false {/
-web/scim_write.go . TestScimExamples s/names != "" \&\& !hasVersion(names, from) {/false {/
+web/scim_write.go . TestScimExamples s/ \&\& !hasVersion(names, from) {/ \&\& false {/
 web/scim_write.go . TestScimRoles s/^\t\tif !ok || !s\.mayScim(w, r, "scim\.write", kind\.Name, keys\["id"\]) {$/\t\tif !ok {/
 web/access.go . TestWhoami s/ || isDesk(r) {$/ {/
 web/server.go . TestDeskFromElsewhere s/ \&\& !isDesk(r) {/ {/
