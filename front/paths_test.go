@@ -18,6 +18,8 @@ var samples = map[string][2]string{
 	"/can/{person}":                         {"/can/hana", `{"can":[{"action":`},
 	"/who":                                  {"/who?action=write&resource=record-moss", `{"who":["ada","dina"]}`},
 	"/by_rule":                              {"/by_rule?policy=records&rule=trainees-only-read", `{"by_rule":[{"action":`},
+	"/whoami":                               {"/whoami", `{"commands":["action.add",`},
+	"/desk/{file}":                          {"/desk/cell.js", "// A cell in full"},
 	"/work":                                 {"/work", `{"evaluations":`},
 	"/dump":                                 {"/dump?version=2", `{"dump":["{\"do\":\"format\",\"version\":2}"`},
 	"/format":                               {"/format?version=2", `{"format":2}`},
