@@ -190,7 +190,7 @@ func sameAll(t *testing.T, f *front, models []*scimModel) {
 // and the table is that of the rows that a model maps to.
 func TestScimModel(t *testing.T) {
 	const clients = 4
-	requests, phases := number("FRONT_SCIM_REQUESTS", 2000), number("FRONT_SCIM_PHASES", 4)
+	requests, phases := number("FRONT_SCIM_REQUESTS", 1000), number("FRONT_SCIM_PHASES", 4)
 	path := t.TempDir()
 	words := []string{"--scim", scimFile(t, scimMapping), "--snapshot-every", "400"}
 	var mutex sync.Mutex
