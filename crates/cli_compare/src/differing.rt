@@ -165,9 +165,9 @@ fn send_difference<W: Write>(
 /// The changes are lines that are sent behind those of the state; or, where the first of them is `format`, as in a
 /// dump, the lines of a state of their own. Each service is a new one within those limits, over two modules of each
 /// sort. What differs is one line of JSON ([`difference`](script_compare::difference)), a table
-/// ([`shown`](script_compare::shown)), or Markdown ([`markdown`](script_compare::markdown)). Where a line is refused, it is
-/// told by two lines, `NAME:LINE: expected no refusal` and `NAME:LINE: replied REPLY`, and nothing is compared. Faults:
-/// the writer's, which may have taken a front of what is written, and want of memory.
+/// ([`shown`](script_compare::shown)), or Markdown ([`markdown`](script_compare::markdown)). Where a line is refused,
+/// it is told by two lines, `NAME:LINE: expected no refusal` and `NAME:LINE: replied REPLY`, and nothing is compared.
+/// Faults: the writer's, which may have taken a front of what is written, and want of memory.
 ///
 /// Its contract leaves open: when it answers want of memory, and how much a failing writer took.
 #[tactic(auto, using(crate::proofs::Differences::compared, crate::proofs::Differences::refused_second))]

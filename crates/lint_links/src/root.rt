@@ -78,7 +78,8 @@ fn keys_outside(
 
 /// The places of these documents, in one module, to which the root leads.
 fn reached_in(alloc: Global, docs: MapDocs, root: &Option<Reference>) -> Result<Reached, AllocError>
-    ensures { IfOk result (λ r. (place : DocPlace) → has_place place r ≡ is_reached (held docs ∷ []) root.now place) }
+    ensures { IfOk result (λ r. (place : DocPlace) →
+        has_place place r ≡ is_reached (held docs ∷ []) root.now place) }
 {
     let finder = finder_over(alloc, Box::new(alloc, docs)?)?;
     reached_places(alloc, &finder, root)

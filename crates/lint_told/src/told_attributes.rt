@@ -1,5 +1,5 @@
-//! What of documents and of lines isn't declared. Each line is a list of attributes that are declared for the lines below
-//! it, a document, or a command.
+//! What of documents and of lines isn't declared. Each line is a list of attributes that are declared for the lines
+//! below it, a document, or a command.
 
 use crate::broken::{Broken, send, send_line};
 use ent_json::{JsonTree, read_json};

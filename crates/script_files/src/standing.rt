@@ -48,7 +48,8 @@ impl LinePlace {
 
     /// The place behind a line that stands here.
     fn behind(self, line: &NumberedLine) -> LinePlace
-        ensures { (before : List NumberedLine) → self ≡ place_of before → result ≡ place_of (line.now ∷ before) }
+        ensures { (before : List NumberedLine) → self ≡ place_of before
+            → result ≡ place_of (line.now ∷ before) }
     {
         let mut place = self;
         place.sent = false;
