@@ -10,7 +10,7 @@ const MOST_TOLD: usize = 16;
 
 /// A text between its quotes.
 #[derive(Clone, Copy)]
-struct Written<'a> {
+struct WrittenText<'a> {
     text: &'a str,
     /// Behind how many bytes it begins, its quote among them.
     behind: usize,
@@ -33,14 +33,14 @@ struct Open<'a> {
 struct Again<'a> {
     /// The JSON pointer of its object.
     pointer: String,
-    key: Written<'a>,
+    key: WrittenText<'a>,
     /// Behind how many bytes it stood before.
     before: usize,
 }
 
 /// What is known of the bytes of a text that were passed.
 #[derive(Drop)]
-struct ByteScan<'a> {
+struct KeyScan<'a> {
     text: &'a [u8],
     open: Vec<Open<'a>>,
     found: Vec<Again<'a>>,
@@ -49,10 +49,10 @@ struct ByteScan<'a> {
     is_in_text: bool,
     is_escaped: bool,
     /// The text that was passed last.
-    last: Written<'a>,
+    last: WrittenText<'a>,
 }
 
-impl<'a> ByteScan<'a> {
+impl<'a> KeyScan<'a> {
     /// The JSON pointer of what was opened last. A key is taken as it is written.
     fn pointer(&self, alloc: Global) -> Result<String, AllocError> {
         let mut pointer = String::new(alloc);
@@ -123,7 +123,7 @@ impl<'a> ByteScan<'a> {
             b'\\' => self.is_escaped = true,
             b'"' => {
                 self.is_in_text = false;
-                self.last = Written {
+                self.last = WrittenText {
                     text: text_between(self.text, self.begin.saturating_add(1), number),
                     behind: self.begin,
                 };
@@ -163,14 +163,14 @@ fn text_between(text: &[u8], begin: usize, end: usize) -> &str {
 
 /// The keys that stand again in an object, as far as so many are told.
 fn keys_again(alloc: Global, text: &[u8]) -> Result<Vec<Again<'_>>, AllocError> {
-    let mut walk = ByteScan {
+    let mut walk = KeyScan {
         text,
         open: Vec::new(alloc),
         found: Vec::new(alloc),
         begin: 0,
         is_in_text: false,
         is_escaped: false,
-        last: Written {
+        last: WrittenText {
             text: "",
             behind: 0,
         },

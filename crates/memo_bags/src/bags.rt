@@ -13,13 +13,13 @@ use std::alloc::{AllocError, Global};
 use std::hash::{Hash, Hasher};
 use std::marker::Model;
 
-/// A bag that was found.
+/// A bag that has a number.
 #[derive(PartialEq, Eq, Drop)]
-struct FoundBag {
+struct NumberedBag {
     bag: Bag,
 }
 
-impl Hash for FoundBag {
+impl Hash for NumberedBag {
     ghost hash_input = { λ f. bag_writes f.bag };
 
     ghost respects_eq = { (on_Alike (λ f. f.bag) (same_Alike bag_writes same_bag-Decides)).fed };
@@ -32,7 +32,7 @@ impl Hash for FoundBag {
 /// The bags that have a number, each once, in the order of their numbers.
 #[derive(Drop)]
 pub struct Bags {
-    bags: IndexSet<FoundBag>,
+    bags: IndexSet<NumberedBag>,
     values: usize,
 }
 
@@ -75,7 +75,7 @@ impl Bags {
             return Err(AllocError);
         }
         let more = bag.values().len();
-        let (number, is_new) = self.bags.insert_full(FoundBag { bag })?;
+        let (number, is_new) = self.bags.insert_full(NumberedBag { bag })?;
         self.values = grown(self.values, more, is_new);
         Ok(number as u32)
     }

@@ -1,5 +1,5 @@
 use Rattle.std.proofs.Common.{◌++◌, ap, ◌∙◌}
-use Rattle.memo_bags.specs.declared.bags.FoundBag.{FoundBag}
+use Rattle.memo_bags.specs.declared.bags.NumberedBag.{NumberedBag}
 use Rattle.memo_bags.proofs.BagsNumbered.{distinct_map, put_at, put_begins}
 use Rattle.memo_bags.proofs.bags.Bags.number_of.Goals as goal
 
@@ -9,12 +9,12 @@ returns-in_err-number-clause-distinct c = distinct_map c.insert_full.new.self.ke
 pub returns-clause-number : goal.returns-clause-number
 returns-clause-number c =
     let stored = c.in_ok-number.ensures.stored in
-    let f : FoundBag = record { bag = c.args.bag } in
+    let f : NumberedBag = record { bag = c.args.bag } in
     put_at c.insert_full.new.self.keys f stored.0 c.in_ok-number.number stored.1 stored.2
 
 pub returns-clause-begins : goal.returns-clause-begins
 returns-clause-begins c =
-    let f : FoundBag = record { bag = c.args.bag } in
+    let f : NumberedBag = record { bag = c.args.bag } in
     let begins = put_begins c.self.inside.bags.keys c.insert_full.new.self.keys f c.in_ok-number.ensures.keys in
     (begins.0, begins.1 ∙ ap (λ l. l ++ begins.0) c.self.view_is)
 
