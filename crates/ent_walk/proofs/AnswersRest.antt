@@ -26,7 +26,7 @@ use Rattle.ent_walk.specs.declared.target.Targeted.{Targeted}
 use Rattle.ent_walk.specs.Answer.{answer_part, asked, looked_up, most_hops, recorded, root_part}
 use Rattle.ent_walk.specs.Given.{finished}
 use Rattle.ent_request.specs.Plain.{nothing}
-use Rattle.ent_walk.specs.Law.{EqualFindingsGiveEqualAnswers, EqualFindingsGiveEqualConditions, EqualFindingsGiveEqualPolicies, EqualFindingsGiveEqualRules, EqualFindingsGiveEqualTargets, EqualLookUpsGiveEqualAnswers, FindsSame}
+use Rattle.ent_walk.specs.Law.{EqualFindingsGiveEqualAnswers, EqualFindingsGiveEqualConditions, EqualFindingsGiveEqualTargets, EqualLookUpsGiveEqualAnswers, FindsSame}
 use Rattle.ent_request.specs.SameLook.{IsSameLook}
 use Rattle.ent_walk.specs.Node.{Node, child_step, children_part, combined, followed, found_node, node_with, policy_key, policy_part, refer, set_key, set_step}
 use Rattle.ent_walk.specs.proofs_only.Node.{set_node_with}
@@ -246,14 +246,6 @@ targets-rest s t q r target = part-rests s t q r (λ u. target_part u.looks u.re
 pub conditions-rest : EqualFindingsGiveEqualConditions
 conditions-rest s t q r definitions condition =
     part-rests s t q r (λ u. condition_part u.looks u.request definitions condition) (condition-rests (record { looks = s; request = q }) (record { looks = t; request = r }) definitions condition)
-
-pub rules-rest : EqualFindingsGiveEqualRules
-rules-rest s t q r definitions path rule =
-    part-rests s t q r (λ u. rule_part u.looks u.request definitions path rule) (rule-rests (record { looks = s; request = q }) (record { looks = t; request = r }) definitions path rule)
-
-pub policies-rest : EqualFindingsGiveEqualPolicies
-policies-rest s t q r path policy =
-    part-rests s t q r (λ u. policy_part u.looks u.request path policy) (policy-rests (record { looks = s; request = q }) (record { looks = t; request = r }) path policy)
 
 -- and where each recorded look-up gives the same, for one request, so does what is asked
 pub answers-rest : EqualLookUpsGiveEqualAnswers

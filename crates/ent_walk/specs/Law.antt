@@ -3,12 +3,10 @@ use Rattle.std.specs.Prelude.{◌≡◌, ◌≢◌, ◌↔◌, List, ◌∷◌, 
 use Rattle.std.specs.List.{All, Contains}
 use Rattle.ent_combine.specs.declared.outcome.IndKind.{IndKind}
 use Rattle.ent_combine.specs.declared.outcome.Outcome.TheVariants.{Ind}
-use Rattle.ent_policy.specs.declared.document.Policy.{Policy}
 use Rattle.ent_policy.specs.declared.document.Rule.{Rule}
 use Rattle.ent_policy.specs.declared.document.Target.{Target}
 use Rattle.ent_policy.specs.declared.expression.Expression.{Expression}
 use Rattle.ent_policy.specs.declared.expression.VariableDefinition.{VariableDefinition}
-use Rattle.ent_policy.specs.declared.key.DocKey.{DocKey}
 use Rattle.ent_request.specs.declared.cause.Cause.{Cause}
 use Rattle.ent_request.specs.declared.key.ReadKey.{ReadKey}
 use Rattle.ent_request.specs.declared.key.ReadKey.TheVariants.{Root, Ref}
@@ -21,8 +19,7 @@ use Rattle.ent_request.specs.Sources.{values_of}
 use Rattle.ent_request.specs.SameLook.{IsSameLook}
 use Rattle.ent_request.specs.Note.{questions_in}
 use Rattle.ent_walk.specs.Judged.{has_failed}
-use Rattle.ent_walk.specs.Node.{policy_part}
-use Rattle.ent_walk.specs.Rule.{condition_part, rule_part}
+use Rattle.ent_walk.specs.Rule.{condition_part}
 use Rattle.ent_walk.specs.Target.{target_part}
 
 -- a question finds the same for one request, over what is held, as for another over what is held then
@@ -41,20 +38,10 @@ abbrev pub EqualFindingsGiveEqualTargets : Type 0
 EqualFindingsGiveEqualTargets = (s t : Looks) (q r : Request) (target : Target) → All (FindsSame s q t r) (questions_in (target_part s q target).notes)
     → target_part t r target ≡ target_part s q target
 
--- so with a condition among the definitions of its policy
+-- and so with a condition among the definitions of its policy
 abbrev pub EqualFindingsGiveEqualConditions : Type 0
 EqualFindingsGiveEqualConditions = (s t : Looks) (q r : Request) (definitions : List VariableDefinition) (condition : Option Expression)
     → All (FindsSame s q t r) (questions_in (condition_part s q definitions condition).notes) → condition_part t r definitions condition ≡ condition_part s q definitions condition
-
--- with a rule of the policy at the end of a path
-abbrev pub EqualFindingsGiveEqualRules : Type 0
-EqualFindingsGiveEqualRules = (s t : Looks) (q r : Request) (definitions : List VariableDefinition) (path : List DocKey) (rule : Rule)
-    → All (FindsSame s q t r) (questions_in (rule_part s q definitions path rule).notes) → rule_part t r definitions path rule ≡ rule_part s q definitions path rule
-
--- and with a policy, where a path leads from the root to what it stands in
-abbrev pub EqualFindingsGiveEqualPolicies : Type 0
-EqualFindingsGiveEqualPolicies = (s t : Looks) (q r : Request) (path : List DocKey) (policy : Policy) → All (FindsSame s q t r) (questions_in (policy_part s q path policy).notes)
-    → policy_part t r path policy ≡ policy_part s q path policy
 
 -- where each recorded look-up gives the same in both, the answers are equal, and so are the recorded keys
 abbrev pub EqualLookUpsGiveEqualAnswers : Type 0

@@ -1,9 +1,8 @@
 //! Laws of what answers rest on.
 
 ghost use Rattle.ent_walk.specs.Law.{DecidedNamesNoCause, EqualFindingsGiveEqualConditions};
-ghost use Rattle.ent_walk.specs.Law.{EqualFindingsGiveEqualPolicies};
-ghost use Rattle.ent_walk.specs.Law.{EqualFindingsGiveEqualRules, EqualFindingsGiveEqualTargets};
-ghost use Rattle.ent_walk.specs.Law.{EachKeyIsRecordedOnce, EqualFindingsGiveEqualAnswers};
+ghost use Rattle.ent_walk.specs.Law.{EqualFindingsGiveEqualAnswers, EqualFindingsGiveEqualTargets};
+ghost use Rattle.ent_walk.specs.Law.{EachKeyIsRecordedOnce};
 ghost use Rattle.ent_walk.specs.Law.{EqualLookUpsGiveEqualAnswers, IndeterminateHasItsCause};
 ghost use Rattle.ent_walk.specs.Law.{WhatIsLookedUpIsRecorded};
 
@@ -22,16 +21,6 @@ pub fn equal_findings_give_equal_targets()
 /// Law: so it is with a condition among the definitions of its policy.
 pub fn equal_findings_give_equal_conditions()
     ensures { EqualFindingsGiveEqualConditions }
-{}
-
-/// Law: so it is with a rule, wherever its policy stands.
-pub fn equal_findings_give_equal_rules()
-    ensures { EqualFindingsGiveEqualRules }
-{}
-
-/// Law: so it is with a policy, wherever it stands.
-pub fn equal_findings_give_equal_policies()
-    ensures { EqualFindingsGiveEqualPolicies }
 {}
 
 /// Law: where each look-up that is recorded for an answer gives the same, the answer is the same, and so are the

@@ -28,8 +28,7 @@ pub use gather::{Gathering, no_children};
 pub use law::{
     a_decided_answer_names_no_cause, an_indeterminate_answer_has_its_cause,
     each_key_is_recorded_once, equal_findings_give_equal_answers,
-    equal_findings_give_equal_conditions, equal_findings_give_equal_policies,
-    equal_findings_give_equal_rules, equal_findings_give_equal_targets,
+    equal_findings_give_equal_conditions, equal_findings_give_equal_targets,
     equal_look_ups_give_equal_answers, what_is_looked_up_is_recorded,
 };
 pub use node::under;
