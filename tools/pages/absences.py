@@ -119,6 +119,8 @@ def evaluations():
     yield from found(r'\.evaluate(?:_listed)?\(|Pdp::evaluate', but=['ent_eval/', 'ent_evaluator/', *cells] + TRIALS)
     yield from found(r'pdp\.explain\(|Pdp::explain', but=['ent_eval/', 'ent_evaluator/'] + TRIALS)
     yield from found(r'pdp\.answer\(|Pdp::answer', but=['ent_eval/', 'ent_evaluator/'] + TRIALS)
+    walks = ['ent_eval/src/pdp.rt', 'memo_answers/src/signing.rt']
+    yield from found(r'Walk::over\(', but=['ent_walk/', *walks] + TRIALS)
 
 
 def remembering():

@@ -1,5 +1,6 @@
 //! The cells of a table in list order, each with its request, its answer and what the answer rests on, in groups by
-//! what is asked: so that an edit evaluates exactly the cells that read what it changes, and tells their old answers.
+//! what is asked: so that an edit answers anew exactly the cells that read what it changes, and tells their old
+//! answers.
 #![tactic(auto)]
 
 mod added;

@@ -21,7 +21,8 @@ use ent_values::Items;
 use std::alloc::{AllocError, Global};
 use std::slice;
 
-/// Evaluates the cells under some keys, each once, and makes ready what that says. After a refusal some may be ready.
+/// Answers anew the cells under some keys, once each, and makes ready what that says. After a refusal some may be
+/// ready.
 fn prepare_all<E: Evaluates>(store: &mut Store<E>, keys: &[usize]) -> Result<(), AllocError>
     requires free { AreFree store.old.cells }
     requires there { All (λ c. IsSome (get store.old.cells c)) keys.now }
@@ -60,8 +61,9 @@ fn old_answers<E: Evaluates>(
     Ok(Items::from_vec(olds))
 }
 
-/// Evaluates the cells under some keys, each once, makes ready what that says, and gives the old answers of those that
-/// get another one. There is room in the log for these then, and for so many others. After a refusal some may be ready.
+/// Answers anew the cells under some keys, each once, makes ready what that says, and gives the old answers of those
+/// that get another one. There is room in the log for these then, and for so many others. After a refusal some may be
+/// ready.
 pub(crate) fn prepare<E: Evaluates>(
     alloc: Global,
     store: &mut Store<E>,
