@@ -2,11 +2,11 @@
 
 /// How many faults were told, and how many warnings.
 #[derive(Clone, Copy, Debug, PartialEq, Eq)]
-pub(crate) struct FaultCount {
+pub struct FaultCount {
     /// What is wrong.
-    pub(crate) faults: usize,
+    pub faults: usize,
     /// What may not be meant.
-    pub(crate) warnings: usize,
+    pub warnings: usize,
 }
 
 impl FaultCount {

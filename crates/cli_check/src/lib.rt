@@ -18,4 +18,5 @@ mod status;
 pub use checking::{FILE_LIMIT, FileFault, check_from};
 pub use declaring::DeclaredFault;
 pub use documents::check_documents;
+pub use found::FaultCount;
 pub use sentences::file_sentence;
