@@ -23,10 +23,10 @@ type Assigned = (
 );
 
 /// Obligations or advice: the id of each, and what is assigned.
-type Listed = &'static [(&'static str, &'static [Assigned])];
+type ListedGiven = &'static [(&'static str, &'static [Assigned])];
 
 /// Two obligations, one of them with values of four types.
-const OBLIGATIONS: Listed = &[
+const OBLIGATIONS: ListedGiven = &[
     (
         "log",
         &[
@@ -46,10 +46,10 @@ const OBLIGATIONS: Listed = &[
 ];
 
 /// An advice without a value.
-const ADVICE: Listed = &[("note", &[])];
+const ADVICE: ListedGiven = &[("note", &[])];
 
 /// An advice with an empty one.
-const REASON: Listed = &[("why", &[("text", None, Some("desk"), DataType::Text, "")])];
+const REASON: ListedGiven = &[("why", &[("text", None, Some("desk"), DataType::Text, "")])];
 
 /// A request whose attributes of no value, of one and of two are included.
 const INCLUDING: &str =
@@ -63,7 +63,7 @@ const INCLUDING: &str =
 const EMPTY: &str = r#"{"Request":{}}"#;
 
 /// Requests, and answers to them: the decision, its status, and what goes with it.
-const ANSWERED: &[(&str, Outcome, Status, Listed, Listed)] = &[
+const ANSWERED: &[(&str, Outcome, Status, ListedGiven, ListedGiven)] = &[
     (
         INCLUDING,
         Outcome::Permit,
@@ -118,7 +118,7 @@ fn one_given(alloc: Global, id: &str, all: &[Assigned]) -> Result<Given, Fail> {
 }
 
 /// The obligations or the advice.
-fn given(alloc: Global, listed: Listed) -> Result<Items<Given>, Fail> {
+fn given(alloc: Global, listed: ListedGiven) -> Result<Items<Given>, Fail> {
     let mut given = Items::new(alloc);
     for &(id, all) in listed {
         given.push(one_given(alloc, id, all)?)?;
@@ -131,8 +131,8 @@ fn answer(
     alloc: Global,
     decision: Outcome,
     status: Status,
-    obligations: Listed,
-    advice: Listed,
+    obligations: ListedGiven,
+    advice: ListedGiven,
 ) -> Result<Answer, Fail> {
     let obligations = given(alloc, obligations)?;
     let advice = given(alloc, advice)?;
@@ -202,8 +202,8 @@ fn is_answer_alike(
     text: &str,
     decision: Outcome,
     status: Status,
-    obligations: Listed,
-    advice: Listed,
+    obligations: ListedGiven,
+    advice: ListedGiven,
 ) -> Result<bool, Fail> {
     let answer = answer(alloc, decision, status, obligations, advice)?;
     is_written_alike(alloc, text, &answer)
