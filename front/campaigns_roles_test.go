@@ -28,6 +28,7 @@ func TestCampaignRoles(t *testing.T) {
 		"/campaigns":             {http.MethodGet, "", "rita boss both"},
 		"/campaigns/q4":          {http.MethodGet, "", "rita boss both"},
 		"/campaigns/q4/items":    {http.MethodGet, "", "rita boss both"},
+		"/campaigns/q4/items/0":  {http.MethodGet, "", "rita boss both"},
 		"/campaigns/q4/tasks":    {http.MethodGet, "", "boss both"},
 		"/campaigns/q4/evidence": {http.MethodGet, "", "boss both"},
 		"/campaigns/q4/keep":     {http.MethodPost, act, "rita"},
@@ -100,6 +101,20 @@ func TestCampaignOthers(t *testing.T) {
 	}
 	if got := f.as(t, "other", http.MethodGet, "/campaigns/q4/items?reviewer=hana", ""); got.status != 403 {
 		t.Errorf("another's items: %+v", got)
+	}
+	for _, one := range []struct {
+		who, item string
+		status    int
+		says      string
+	}{
+		{"hana", "0", 200, `"rule":"care-team"`}, {"boss", "0", 200, `"facts":[{`},
+		{"hana-login", "0", 200, `"reviewer":"hana"`}, {"other", "0", 404, "no item 0 that other reviews"},
+		{"boss", "100000", 404, "no item 100000"}, {"hana", "first", 400, "by its number"},
+	} {
+		got := f.as(t, one.who, http.MethodGet, "/campaigns/q4/items/"+one.item, "")
+		if got.status != one.status || !strings.Contains(got.body, one.says) {
+			t.Errorf("%s asks for item %s, and is answered %+.300v", one.who, one.item, got)
+		}
 	}
 	if got := f.items(t, "hana-login", "q4", ""); len(got.Groups) != len(all.Groups) {
 		t.Errorf("hana is told %d groups of %d", len(got.Groups), len(all.Groups))

@@ -40,6 +40,7 @@ var samples = map[string][2]string{
 	"/campaigns":                            {"/campaigns", `{"campaigns":[{"campaign":{"name":"q4",`},
 	"/campaigns/{campaign}":                 {"/campaigns/q4", `{"campaign":{"name":"q4",`},
 	"/campaigns/{campaign}/items":           {"/campaigns/q4/items?count=3", `{"campaign":"q4","groups":[{"person":`},
+	"/campaigns/{campaign}/items/{item}":    {"/campaigns/q4/items/0", `{"campaign":"q4","explain":{"answer":{`},
 	"/campaigns/{campaign}/tasks":           {"/campaigns/q4/tasks", `{"more":false,"serial":70,"tasks":[]}`},
 	"/campaigns/{campaign}/evidence":        {"/campaigns/q4/evidence", `{"evidence":1,"campaign":"q4","serial":70,`},
 }

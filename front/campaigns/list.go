@@ -9,6 +9,7 @@ import (
 type Query struct {
 	Reviewers []string // nothing: everybody's
 	States    []State
+	Item      *uint32 // nothing: all
 	From      int
 	Count     int // how many groups there are at most
 }
@@ -136,7 +137,8 @@ func (c *Campaign) groups(q Query) []*found {
 	person := ^uint32(0)
 	for number := range c.state {
 		i := &c.state[number]
-		if len(q.States) > 0 && !wanted[i.state] || len(q.Reviewers) > 0 && !mine[c.reviewers[number]] {
+		if len(q.States) > 0 && !wanted[i.state] || len(q.Reviewers) > 0 && !mine[c.reviewers[number]] ||
+			q.Item != nil && *q.Item != uint32(number) {
 			continue
 		}
 		if at := c.items.Cells[number].Person; at != person || here == nil {

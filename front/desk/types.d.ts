@@ -64,7 +64,50 @@ interface Lists {
   places: { people: Map<string, number>; actions: Map<string, number>; resources: Map<string, number> };
 }
 
-interface Who { name: string; roles: string[]; commands: string[] }
+interface Who { name: string; person?: string; roles: string[]; commands: string[] }
+
+// An edit that did something to items of a campaign.
+interface ItemEdit { serial: number; time: string; by: string; kind: string; entity: string; unknown?: boolean }
+
+interface SignOff {
+  as: 'keep' | 'revoke'; by: string; time: string; serial: number; digest: string; why?: string; from?: string;
+}
+
+interface Item {
+  item: number; action: string; resource: string; decision: string; obligations?: Given[]; advice?: Given[];
+  signed?: SignOff; by?: ItemEdit; back?: boolean; changed?: ItemEdit; last?: string;
+}
+
+// Items of one person that the same rules give, in one state.
+interface ItemGroup { person: string; why: Entry[]; state: string; reviewer: string; digest: string; items: Item[] }
+
+// A row of a reviewer's list: the state that is drawn, how many of its acts are on their way, and why one wasn't taken.
+interface ListRow { group: ItemGroup; state: string; waits: number; fault: string }
+
+interface ScopePart { names?: string[]; where?: { attribute: string; values: string[] }[] }
+
+interface Definition {
+  name: string; scope: { people?: ScopePart; actions?: ScopePart; resources?: ScopePart; decisions?: string[] };
+  reviewers: { name?: string; people?: string[]; actions?: string[]; resources?: string[]; person?: string;
+    resource?: string }[];
+  ends?: string; remind?: string[]; on?: string; after?: string; oldest?: string; self?: boolean;
+}
+
+// How far a campaign is.
+interface Campaign {
+  campaign: Definition; serial: number; time: string; by: string; up_to: number; items: number;
+  ended?: { serial: number; time: string; by: string }; states: Record<string, number>;
+  reviewers: Record<string, { open: number; fell: number }>; taken?: number; asked?: Record<string, number>;
+  fell: (ItemEdit & { items: number })[]; more: boolean;
+}
+
+// What an answer rests on.
+interface Explained { answer: Answer; causes: Cause[]; facts: any[]; more?: number }
+
+// What is to be revoked and is still there.
+interface Task {
+  item: number; person: string; action: string; resource: string; signed: SignOff; explain: Explained;
+}
 
 // What the open view asked: the path, and what the front says of its answer.
 interface Asked { path: string; serial: string; digest: string }
@@ -79,5 +122,6 @@ interface View {
   show(place: HTMLElement, query: URLSearchParams, isOpen: () => boolean): Promise<void>;
   told?(changes: Change[], serial: number): void;
   renew?(): void;
+  left?(): void;
   sheet?(): Sheet | Promise<Sheet> | null;
 }

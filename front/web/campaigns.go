@@ -31,6 +31,7 @@ func (s *Server) campaignRoutes() []route {
 		{http.MethodPost, "/campaigns", s.openCampaign},
 		{http.MethodGet, "/campaigns/{campaign}", s.campaign},
 		{http.MethodGet, "/campaigns/{campaign}/items", s.campaignItems},
+		{http.MethodGet, "/campaigns/{campaign}/items/{item}", s.campaignItem},
 		{http.MethodGet, "/campaigns/{campaign}/tasks", s.tasks},
 		{http.MethodGet, "/campaigns/{campaign}/events", s.campaignEvents},
 		{http.MethodGet, "/campaigns/{campaign}/evidence", s.evidence},

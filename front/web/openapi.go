@@ -57,6 +57,7 @@ var operations = map[string]operation{
 		does:  "Tells items by groups: those of one person that the same rules give, with the digest of their answers.",
 		gives: []string{jsonType}, has: "groups", keys: itemsKeys,
 	},
+	"GET /campaigns/{campaign}/items/{item}": telling("Tells one item, and what its answer rests on.", "explain"),
 	"GET /campaigns/{campaign}/tasks": {
 		does:  "Tells what is to be revoked and is still there, with what each answer rests on.",
 		gives: []string{jsonType}, has: "tasks", keys: tasksKeys,

@@ -2,7 +2,9 @@ package web
 
 import (
 	"encoding/json"
+	"fmt"
 	"net/http"
+	"strconv"
 
 	"review-front/campaigns"
 	"review-front/line"
@@ -79,4 +81,42 @@ func (s *Server) explained(r *http.Request, name string, page *campaigns.Page) (
 		}
 	}
 	return tasks, nil
+}
+
+// campaignItem tells one item, as a group of its own, and what its answer rests on now: who is to sign it has to see
+// why it is so, and needn't have any right to the table.
+func (s *Server) campaignItem(w *answered, r *http.Request, keys map[string]string) {
+	number, err := strconv.ParseUint(keys["item"], 10, 32)
+	if err != nil {
+		bad("an item is told by its number").send(w)
+		return
+	}
+	name, item := keys["campaign"], uint32(number)
+	asked := campaigns.Query{Item: &item, Count: 1}
+	if !s.mayCampaign(w, r, "campaign.items", name) || !s.ownItems(w, r, name, &asked) || !s.follow(w, r) {
+		return
+	}
+	page, err := s.page(r.Context(), name, asked)
+	var explained []task
+	if err == nil {
+		explained, err = s.explained(r, name, page)
+	}
+	if err == nil && len(explained) == 0 {
+		err = &campaigns.Refused{Status: http.StatusNotFound, Title: "no such item", Detail: noItem(item, asked)}
+	}
+	if err != nil {
+		problemFor(err).send(w)
+		return
+	}
+	tellJSON(w, map[string]any{
+		"campaign": name, "group": page.Groups[0], "explain": explained[0].Explain, "serial": page.Serial,
+	})
+}
+
+// noItem says that there is no such item, of all or of those of some reviewers.
+func noItem(item uint32, asked campaigns.Query) string {
+	if len(asked.Reviewers) > 0 {
+		return fmt.Sprintf("there is no item %d that %s reviews", item, asked.Reviewers[0])
+	}
+	return fmt.Sprintf("there is no item %d", item)
 }

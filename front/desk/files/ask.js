@@ -74,6 +74,16 @@ export async function ask(path, options = {}) {
 }
 
 /**
+ * Fetches a file: what it is, as it came.
+ * @param {string} path @returns {Promise<Blob>}
+ */
+export async function fetchFile(path) {
+  const answer = await fetch(new URL(path.replace(/^\//, ''), base), { headers: shows(), cache: 'no-store' });
+  if (!answer.ok) throw new Problem(answer.status, await answer.json().catch(() => ({})));
+  return answer.blob();
+}
+
+/**
  * Sends a command's body, or lines.
  * @param {string} path @param {string} body @param {Record<string, string>} [headers]
  */

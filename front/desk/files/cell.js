@@ -92,7 +92,7 @@ const ownerOf = (fact) => ('attribute' in fact ? fact.entity ?? 'the surrounding
  * The look-ups, by whose they are.
  * @param {any[]} facts
  */
-function factsTable(facts) {
+export function factsTable(facts) {
   const rows = facts.filter((fact) => 'attribute' in fact || ['date', 'time', 'dateTime'].some((key) => key in fact));
   if (!rows.length) return el('p.quiet', {}, 'Nothing that could change: no value was looked up.');
   return el('table.facts', { 'aria-label': 'What it rests on' }, rows.flatMap((fact, i) => {
@@ -122,7 +122,7 @@ export function causeWords({ what, rule, path, status }) {
  * Obligations or advice.
  * @param {string} title @param {Given[]} list
  */
-function duties(title, list) {
+export function duties(title, list) {
   if (!list.length) return null;
   return [el('h3', {}, title), list.map((given) => el('div.why', {}, el('b', {}, name(given.Id)),
     el('table.facts', {}, given.AttributeAssignment.map((each) => el('tr', {},

@@ -52,9 +52,10 @@ async function readAll(body, tell, alive) {
 /**
  * Hears events until it is ended, or the front says that one may not.
  * @param {string} address @param {Record<string, string>} shows @param {Hears} hears @param {AbortSignal} ended
+ * @param {string} from the last event that is known already, if there is one
  */
-export async function hear(address, shows, hears, ended) {
-  let last = '';
+export async function hear(address, shows, hears, ended, from) {
+  let last = from;
   while (!ended.aborted) {
     const once = new AbortController();
     let timer = setTimeout(() => once.abort(), SILENT), status = 0;

@@ -23,12 +23,12 @@ let made = null;
 
 /**
  * Hears by the shared worker.
- * @param {Hears} hears @param {AbortSignal} ended
+ * @param {string} address @param {number} from @param {Hears} hears @param {AbortSignal} ended
  */
-function share(hears, ended) {
+function share(address, from, hears, ended) {
   made ??= workerAddress();
   const worker = new SharedWorker(made, { type: 'module', name: 'review-desk' }), { port } = worker;
-  const said = { kind: 'hear', address: new URL('notices', base).href, shows: shows() };
+  const said = { kind: 'hear', address, shows: shows(), from: from ? String(from) : '' };
   port.onmessage = ({ data }) => {
     if (data.kind === 'event') hears.event(data.told);
     else hears.state(data.state, data.status);
@@ -48,12 +48,12 @@ function share(hears, ended) {
 }
 
 /**
- * Hears what happens, until it is ended.
- * @param {Hears} hears @returns {() => void} ends it
+ * Hears what happens, until it is ended: what edits change, or what another path tells behind a serial.
+ * @param {Hears} hears @param {string} [path] @param {number} [from] @returns {() => void} ends it
  */
-export function listen(hears) {
-  const ended = new AbortController();
-  if ('SharedWorker' in window) share(hears, ended.signal);
-  else hear(new URL('notices', base).href, shows(), hears, ended.signal);
+export function listen(hears, path = 'notices', from = 0) {
+  const ended = new AbortController(), address = new URL(path, base).href;
+  if ('SharedWorker' in window) share(address, from, hears, ended.signal);
+  else hear(address, shows(), hears, ended.signal, from ? String(from) : '');
   return () => ended.abort();
 }

@@ -10,8 +10,9 @@ import { unknown } from './front.js';
 import * as table from './table.js';
 
 /**
- * The views by the words of their addresses; those without words in the line above are led to from others.
- * @type {Record<string, {load: () => Promise<any>, words: string, needs: string[]}>}
+ * The views by the words of their addresses; those without words in the line above are led to from others, or are of
+ * one that stands there.
+ * @type {Record<string, {load: () => Promise<any>, words: string, needs: string[], of?: string}>}
  */
 const VIEWS = {
   table: { load: async () => table, words: 'Table', needs: ['names'] },
@@ -22,6 +23,9 @@ const VIEWS = {
   changes: { load: () => import('./changes.js'), words: 'What changed', needs: ['changes'] },
   findings: { load: () => import('./findings.js'), words: 'Findings', needs: ['names'] },
   try: { load: () => import('./try.js'), words: 'Try an edit', needs: ['attr.set', 'table'] },
+  campaigns: { load: () => import('./campaigns.js'), words: 'Reviews', needs: ['campaign.show'] },
+  campaign: { load: () => import('./campaign.js'), words: '', needs: ['campaign.show'], of: 'campaigns' },
+  signing: { load: () => import('./signing.js'), words: '', needs: ['campaign.items'], of: 'campaigns' },
 };
 
 const place = field('view');
@@ -33,7 +37,8 @@ let turn = 0, isComing = false;
  */
 function drawViews(open) {
   field('views').replaceChildren(...Object.entries(VIEWS).filter(([, view]) => view.words && view.needs.every(may))
-    .map(([each, { words }]) => el('a', { href: address(each), 'aria-current': each === open && 'page' }, words)));
+    .map(([each, { words }]) => el('a', { href: address(each),
+      'aria-current': (each === open || each === VIEWS[open]?.of) && 'page' }, words)));
   field('who').replaceChildren(...(token() ? [desk.who.name, ' ', el('button.link', { type: 'button', onclick: leave },
     'Leave')]
     : [desk.who.name]));
@@ -52,7 +57,8 @@ export function drawLive() {
     : desk.live === 'away'
       ? `The service is away since ${moment(desk.since).slice(11)}. This is how it stood at serial ${number(
       desk.serial)}.`
-      : desk.live === 'barred' ? `As of serial ${number(desk.serial)}. You have no right to hear edits.` : '';
+      : desk.live === 'barred' && may('names')
+        ? `As of serial ${number(desk.serial)}. You have no right to hear edits.` : '';
 }
 
 /**
@@ -70,9 +76,11 @@ async function route() {
   if (isComing) return;
   turn += 1;
   const now = turn, [word, query] = location.hash.slice(1).split('?');
-  const key = word in VIEWS ? word : 'table', view = VIEWS[key];
+  const first = Object.entries(VIEWS).find(([, each]) => each.needs.every(may))?.[0] ?? 'table';
+  const key = word in VIEWS ? word : first, view = VIEWS[key];
   drawViews(key);
   close(true);
+  opened.view?.left?.();
   record.clear();
   try {
     const module = /** @type {View} */ (await view.load());
@@ -125,7 +133,7 @@ async function hear({ event, id, data }) {
 /** Reads the lists anew, and the open view: one that can do so keeps what its reader had there. */
 async function anew() {
   const before = desk.lists;
-  if (!await readLists().then(() => true, () => false)) return;
+  if (may('names') && !await readLists().then(() => true, () => false)) return;
   const view = opened.view, isSame = before.actions.join() === desk.lists.actions.join();
   if (view?.renew && isSame) view.renew();
   else await route();
@@ -179,7 +187,7 @@ async function begin() {
     comeIn(unwelcome);
     return;
   }
-  const fault = unwelcome ?? await (early ?? read());
+  const fault = unwelcome ?? (may('names') ? await (early ?? read()) : null); // a reviewer may have no right to lists
   if (isComing) return;
   if (fault) {
     drawViews('');

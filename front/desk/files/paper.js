@@ -80,12 +80,19 @@ export function csvField(value) {
 export const csvOf = (sheet) => [sheet.heads.map((head) => head.replace('#', '')), ...sheet.rows]
   .map((row) => `${row.map(csvField).join(',')}\r\n`).join('');
 
+/**
+ * Gives a file to who reads the page.
+ * @param {Blob} file @param {string} name
+ */
+export function saveFile(file, name) {
+  const to = URL.createObjectURL(file);
+  el('a', { href: to, download: name }).click();
+  setTimeout(() => URL.revokeObjectURL(to), 60000);
+}
+
 export async function saveView() {
   try {
     const sheet = await sheetOfView(), file = new Blob([csvOf(sheet)], { type: 'text/csv;charset=utf-8' });
-    const to = URL.createObjectURL(file), name = `${sheet.title.replace(/[^\w]+/g, '-').toLowerCase()}.csv`;
-    const made = el('a', { href: to, download: name });
-    made.click();
-    setTimeout(() => URL.revokeObjectURL(to), 60000);
+    saveFile(file, `${sheet.title.replace(/[^\w]+/g, '-').toLowerCase()}.csv`);
   } catch (fault) { tell(/** @type {Error} */ (fault)); }
 }

@@ -13,10 +13,10 @@ const streams = new Map();
 /** @param {Stream} stream @param {any} told */
 const tell = (stream, told) => { for (const port of stream.ports.keys()) port.postMessage(told); };
 
-/** @param {string} key @param {string} address @param {Record<string, string>} shows */
-function begin(key, address, shows) {
+/** @param {string} key @param {string} address @param {Record<string, string>} shows @param {string} from */
+function begin(key, address, shows, from) {
   /** @type {Stream} */
-  const stream = { ports: new Map(), ended: new AbortController(), from: '', state: [] };
+  const stream = { ports: new Map(), ended: new AbortController(), from, state: [] };
   streams.set(key, stream);
   hear(address, shows, {
     event(told) {
@@ -27,7 +27,7 @@ function begin(key, address, shows) {
       stream.state = [state, status];
       tell(stream, { kind: 'state', state, status });
     },
-  }, stream.ended.signal).finally(() => streams.delete(key));
+  }, stream.ended.signal, from).finally(() => streams.delete(key));
   return stream;
 }
 
@@ -42,14 +42,17 @@ function leave(port) {
   }
 }
 
-/** @param {MessagePort} port @param {{kind: string, address: string, shows: Record<string, string>}} said */
+/**
+ * @param {MessagePort} port
+ * @param {{kind: string, address: string, shows: Record<string, string>, from: string}} said
+ */
 function heard(port, said) {
   if (said.kind === 'leave') {
     leave(port);
     return;
   }
   const key = JSON.stringify([said.address, said.shows]);
-  const stream = streams.get(key) ?? begin(key, said.address, said.shows);
+  const stream = streams.get(key) ?? begin(key, said.address, said.shows, said.from);
   const isNew = !stream.ports.has(port);
   stream.ports.set(port, Date.now());
   if (!isNew) return;

@@ -1,0 +1,85 @@
+// A reviewer's acts, one behind the other. An act is of the row that had the mark when the key came; it is drawn at
+// once, and sent behind those before it, so that keys faster than the network sign each row once.
+import { act } from './reviewing.js';
+import { Problem } from './ask.js';
+
+/** @typedef {'keep' | 'revoke' | 'pass'} Kind */
+/** @typedef {{campaign: string, row: ListRow, items: number[]}} Done */
+
+/**
+ * Who draws rows, and reads them anew once nothing is on its way.
+ * @type {{drawn: (row: ListRow) => void, failed: (row: ListRow, words: string) => void, idle: () => void}}
+ */
+export const hooks = { drawn() {}, failed() {}, idle() {} };
+
+/** @type {Promise<void>} */
+let queue = Promise.resolve();
+let waiting = 0;
+/** @type {Done[]} */
+let kept = [];
+
+/** Whether acts are on their way. */
+export const isBusy = () => waiting > 0;
+
+/** @param {ListRow} row */
+export const itemsOf = (row) => row.group.items.map((each) => each.item);
+
+/**
+ * Why an act wasn't taken, in words.
+ * @param {any} fault
+ */
+function faultWords(fault) {
+  if (!(fault instanceof Problem)) return 'the service doesn’t answer';
+  if (fault.status === 409 && fault.title === 'another answer') return 'its answer isn’t the one that stood here';
+  return fault.message;
+}
+
+/**
+ * Sends something of a row behind what is on its way.
+ * @param {ListRow} row @param {() => Promise<any>} send @param {() => void} back
+ */
+function behind(row, send, back) {
+  waiting += 1;
+  row.waits += 1;
+  row.fault = '';
+  queue = queue.then(send).then(() => { row.waits -= 1; }, (fault) => {
+    row.waits -= 1;
+    row.fault = faultWords(fault);
+    back();
+    hooks.failed(row, row.fault);
+  }).then(() => {
+    waiting -= 1;
+    hooks.drawn(row);
+    if (waiting === 0) hooks.idle();
+  });
+}
+
+const STATE = { keep: 'kept', revoke: 'revoke', pass: 'passed' };
+
+/**
+ * Signs a row, or passes it on. What is told of its answers is what was seen.
+ * @param {string} campaign @param {ListRow} row @param {Kind} kind @param {number} serial @param {any} more
+ */
+export function sign(campaign, row, kind, serial, more = {}) {
+  const before = row.state, items = itemsOf(row), done = { campaign, row, items };
+  const body = kind === 'pass' ? { items, ...more } : { items, digest: row.group.digest, serial, ...more };
+  row.state = STATE[kind];
+  if (kind !== 'pass') kept.push(done);
+  behind(row, () => act(campaign, kind, body), () => {
+    row.state = before;
+    kept = kept.filter((each) => each !== done);
+  });
+}
+
+/**
+ * Takes back the last sign-off that was made here; which row that was.
+ * @param {string} campaign @returns {ListRow | null}
+ */
+export function undo(campaign) {
+  const done = kept.pop();
+  if (!done || done.campaign !== campaign) return null;
+  const { row, items } = done, before = row.state;
+  row.state = 'open';
+  behind(row, () => act(campaign, 'undo', { items }), () => { row.state = before; });
+  return row;
+}

@@ -1,0 +1,253 @@
+// Signing: a reviewer's list, a row for a person and the rules that give what she may. An act is for a row, by a key or
+// a button, and is refused while the side doesn't show that row.
+import { desk, may } from './state.js';
+import { listen } from './live.js';
+import { address, el, link, moment, number, plural, say, shown } from './words.js';
+import { bar, menu, printing } from './bar.js';
+import { hooks, isBusy, sign, undo } from './acts.js';
+import { close } from './panel.js';
+import { campaign as told_, groupsOf, isKnown } from './reviewing.js';
+import { SignList, actionsOf, isToDo, resourcesOf, rulesIn, stateWords } from './signlist.js';
+import { askLine, forget, prefetch, showRow, side } from './signside.js';
+import { pathWords } from './cell.js';
+
+export const title = 'Sign-off', needs = ['campaign.items'];
+
+const SHOWN = /** @type {[string, string][]} */ ([['', 'everything'], ['open fell', 'to do'], ['kept', 'kept'],
+  ['revoke', 'to be revoked'], ['fell', 'fallen']]);
+
+let name = '', reviewer = '', only = '', serial = 0, late = 0, isMore = false;
+/** @type {Campaign} */
+let campaign;
+/** @type {SignList} */
+let list;
+/** @type {HTMLElement} */
+let head;
+let stop = () => {};
+
+/** What came since the last sign-off stands first: what fell, then what has another answer. */
+const isFresh = (/** @type {ListRow} */ { group }) => group.items.some((each) => each.changed || each.last === 'fell'
+  || each.last === 'another answer');
+
+/** @param {ListRow} row */
+const rankOf = (row) => (row.state === 'fell' ? 0 : row.state === 'open' ? (isFresh(row) ? 1 : 2)
+  : { revoke: 3, kept: 4, revoked: 5 }[row.state] ?? 6);
+
+/** @param {ItemGroup} group @returns {ListRow} */
+const rowOf = (group) => ({ group, state: group.state, waits: 0, fault: '' });
+
+/** @param {ItemGroup} group */
+const keyOf = ({ person, why, reviewer: of }) => JSON.stringify([person, why, of]);
+
+/** Who reviews: all that are known of this campaign. */
+function reviewers() {
+  const given = campaign.campaign.reviewers.flatMap((each) => (each.name ? [each.name] : []));
+  return [...new Set([...Object.keys(campaign.reviewers), ...given])].sort();
+}
+
+function drawHead() {
+  const count = /** @type {Record<string, number>} */ ({ open: 0, fell: 0, kept: 0, revoke: 0 });
+  for (const { state } of list.rows) if (state in count) count[state] += 1;
+  const done = count.kept + count.revoke, all = done + count.open + count.fell;
+  head.replaceChildren(el('progress', { max: Math.max(1, all), value: done, 'aria-label': 'Signed' }),
+    el('span', {}, el('b', {}, `${number(done)} of ${number(all)}`), ' rows signed',
+      all ? ` (${Math.floor((100 * done) / all)} %)` : ''),
+    el('span', {}, `${number(count.kept)} kept`), el('span', {}, `${number(count.revoke)} to be revoked`),
+    el('span', {}, `${number(count.fell)} fallen`), el('span', {}, `${number(count.open)} to do`));
+}
+
+/** @param {ListRow} row */
+function moved(row) {
+  showRow(name, row, acts, Boolean(campaign.ended));
+  for (let i = 1; i <= 3; i += 1) prefetch(name, list.rows[list.at + i]);
+}
+
+/** Whether the marked row can be signed now; else it is said why not. */
+function isReady() {
+  const { row } = list;
+  if (!row || campaign.ended || !isKnown()) return false;
+  if (row.waits) say('The last act of this row is on its way.');
+  else if (side.row !== row) say('Not yet: what it rests on isn’t here.');
+  else return true;
+  return false;
+}
+
+/**
+ * Signs the marked row, and goes on to the next one to do.
+ * @param {import('./acts.js').Kind} kind @param {any} [more] @param {ListRow} [row]
+ */
+function signed(kind, more, row = list.row) {
+  sign(name, row, kind, serial, more);
+  list.drawRow(row);
+  drawHead();
+  const next = list.next(), word = `${shown(row.group.person)}: ${stateWords(row.state)}.`;
+  if (next < 0) {
+    moved(list.row);
+    say(`${word} That was the last one.`);
+    return;
+  }
+  list.go(next);
+  say(`${word} Next: ${shown(list.row.group.person)} by ${shown(rulesIn(list.row.group))}`);
+}
+
+const acts = {
+  keep: () => { if (isReady() && list.row.state !== 'kept') signed('keep'); },
+  revoke() {
+    const { row } = list;
+    if (!isReady() || row.state === 'revoke') return;
+    askLine('Why is it to go? Nothing is edited: it becomes a task.', 'Ask to revoke', [],
+      (why) => signed('revoke', { why }, row));
+  },
+  pass() {
+    const { row } = list;
+    if (!isReady() || !isToDo(row)) return;
+    askLine('Whose is it?', 'Pass it on', reviewers(), (to) => signed('pass', { to }, row));
+  },
+  undo() {
+    const row = undo(name);
+    if (!row) {
+      say('Nothing was signed here since this page was opened.');
+      return;
+    }
+    const at = list.rows.indexOf(row);
+    if (at >= 0) list.go(at);
+    drawHead();
+    say(`Taken back: ${shown(row.group.person)}`);
+  },
+};
+
+/** @param {KeyboardEvent} event */
+function key(event) {
+  const keys = /** @type {Record<string, () => void>} */ ({ ArrowDown: () => list.go(list.at + 1),
+    j: () => list.go(list.at + 1), ArrowUp: () => list.go(list.at - 1), k: () => list.go(list.at - 1),
+    Home: () => list.go(0), End: () => list.go(list.rows.length - 1), PageDown: () => list.go(list.at + 15),
+    PageUp: () => list.go(list.at - 15), Enter: () => list.go(list.at), y: acts.keep, x: acts.revoke, n: acts.pass,
+    u: acts.undo });
+  const does = keys[event.key.length === 1 ? event.key.toLowerCase() : event.key];
+  if (!does || event.ctrlKey || event.metaKey || event.altKey) return;
+  event.preventDefault();
+  does();
+}
+
+/** The groups as rows, those of before in their places. */
+async function read() {
+  const asked = { reviewer: reviewer || undefined, state: only ? only.split(' ') : undefined };
+  const [now, all] = await Promise.all([told_(name), groupsOf(name, asked)]);
+  [campaign, serial, isMore] = [now, all.serial, all.more];
+  return all.groups.map(rowOf);
+}
+
+/** Reads all anew, and leaves the mark and the order as they are. */
+async function again() {
+  if (isBusy()) return; // it is read once nothing is on its way
+  const old = list, isHere = () => list === old && !isBusy();
+  const rows = await read().catch(() => null);
+  if (!rows || !isHere()) return;
+  const places = new Map(old.rows.map((row, i) => [keyOf(row.group), i]));
+  const place = (/** @type {ListRow} */ row) => places.get(keyOf(row.group)) ?? old.rows.length;
+  rows.sort((a, b) => place(a) - place(b) || rankOf(a) - rankOf(b));
+  const { row } = old, faults = new Map(old.rows.filter((each) => each.fault).map((each) =>
+    [keyOf(each.group), each.fault]));
+  for (const each of rows) if (isToDo(each)) each.fault = faults.get(keyOf(each.group)) ?? '';
+  const same = row ? rows.findIndex((each) => keyOf(each.group) === keyOf(row.group)) : 0;
+  const isSame = same >= 0 && row && rows[same].group.digest === row.group.digest && rows[same].state === row.state
+    && rows[same].fault === row.fault && rows[same].group.state === row.group.state;
+  old.fill(rows, same >= 0 ? same : old.at);
+  drawHead();
+  if (isSame && side.row === row) side.row = old.row;
+  else if (old.row) moved(old.row);
+}
+
+/** Something happened: a moment later the list is read anew. */
+function later() {
+  clearTimeout(late);
+  late = window.setTimeout(again, 300);
+}
+
+hooks.drawn = (row) => list?.drawRow(row);
+hooks.failed = (row, words) => {
+  forget();
+  say(`Not signed: ${shown(row.group.person)}: ${words}`);
+  drawHead();
+};
+hooks.idle = later;
+
+/** The lines above the list. */
+function top() {
+  const go = (/** @type {Record<string, string>} */ more) => {
+    location.hash = address('signing', { campaign: name, reviewer, only, ...more });
+  };
+  const names = reviewers().map((each) => /** @type {[string, string]} */ ([each, shown(each)]));
+  return bar(may('campaign.all') ? menu('reviewer', 'Reviewer', [['', 'everybody'], ...names], reviewer,
+    (chosen) => go({ reviewer: chosen })) : null,
+  menu('only', 'Show', SHOWN, only, (chosen) => go({ only: chosen })), head, printing());
+}
+
+/** @param {HTMLElement} place @param {URLSearchParams} query @param {() => boolean} isOpen */
+export async function show(place, query, isOpen) {
+  [name, reviewer, only] = ['campaign', 'reviewer', 'only'].map((each) => query.get(each) ?? '');
+  const rows = await read();
+  if (!isOpen()) return;
+  rows.sort((a, b) => rankOf(a) - rankOf(b));
+  list = new SignList(moved, key);
+  head = el('div.progress', { role: 'status' });
+  const { ends } = campaign.campaign;
+  place.replaceChildren(top(), el('p.keys.lines', {}, link('campaign', { campaign: name }, name),
+    ends ? `, until ${ends}` : '', campaign.ended ? `. It ended ${moment(campaign.ended.time)}.` : '.',
+    ' What fell, and what has another answer than before, stands first.',
+    isMore ? ` The first ${plural(rows.length, 'row')} are here.` : ''),
+  rows.length ? list.box : el('p.empty', {}, 'Nothing is here to be signed.'),
+  el('p.keys', {}, 'J and K or the arrows move, Y keeps, X asks to revoke, N passes on, U takes the last act back.'));
+  list.fill(rows, Math.max(0, rows.findIndex(isToDo)));
+  drawHead();
+  stop();
+  stop = hearing(isOpen);
+  if (!rows.length) close();
+  else {
+    list.box.focus();
+    list.go(list.at);
+  }
+}
+
+/** @param {() => boolean} isOpen */
+const hearing = (isOpen) => listen({
+  event({ event, id, data }) {
+    const isMine = /^(kept|revoke|passed|undone)$/.test(event) && JSON.parse(data).by === desk.who.name;
+    const isKnown_ = event === 'from' && Number(id) <= campaign.up_to;
+    if (isOpen() && !isKnown_ && !isMine) later();
+  },
+  state() {},
+}, `campaigns/${name}/events`, campaign.up_to);
+
+/** An edit changed something: answers that fell stand first when the list is opened again. */
+export const told = later;
+export const renew = later;
+
+export function left() {
+  stop();
+  stop = () => {};
+  clearTimeout(late);
+}
+
+/** @returns {Sheet} */
+export function sheet() {
+  const filter = [...(reviewer ? [`reviewed by ${reviewer}`] : may('campaign.all') ? [] : [`reviewed by ${
+    desk.who.name}`]), ...(only ? [only.split(' ').map(stateWords).join(', ')] : [])];
+  return sheetOf(`Sign-offs of ${name}`, filter, list.rows);
+}
+
+/**
+ * Rows of a campaign on paper.
+ * @param {string} title_ @param {string[]} filter @param {ListRow[]} rows @returns {Sheet}
+ */
+export const sheetOf = (title_, filter, rows) => ({
+  title: title_, filter, heads: ['Person', 'Rule', 'Actions', 'Resources', '#Cells', 'Reviewer', 'State', 'Signed by',
+    'When', '#Serial', 'Because', 'Ended by', 'Digest of the answers'],
+  rows: rows.map(({ group, state }) => {
+    const [{ signed, by }] = group.items;
+    return [group.person, group.why.map((entry) => `${pathWords(entry)} › ${entry.rule ?? 'by default'}`).join('; '),
+      actionsOf(group).join(', '), resourcesOf(group).join(', '), group.items.length, group.reviewer,
+      stateWords(state), signed?.by ?? '', signed ? moment(signed.time) : '', signed?.serial ?? '', signed?.why ?? '',
+      by ? `serial ${by.serial}, ${by.by}, ${moment(by.time)}` : '', group.digest];
+  }),
+});

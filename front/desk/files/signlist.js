@@ -1,0 +1,98 @@
+// The rows of a reviewer's list, of which one has the mark.
+import { el, name, number, plural, shown } from './words.js';
+import { STATES } from './reviewing.js';
+
+const SIGNS = /** @type {Record<string, string>} */ ({ open: '', fell: '!', kept: '✓', revoke: '✕', revoked: '✕',
+  gone: '–', passed: '→' });
+const WORDS = /** @type {Record<string, string>} */ ({ ...STATES, passed: 'passed on' });
+
+/**
+ * The rules that give a group, by their names.
+ * @param {ItemGroup} group
+ */
+export const rulesIn = ({ why }) => (why.length ? why.map((entry) => entry.rule ?? 'by default').join(', ')
+  : 'no rule');
+
+/** @param {ItemGroup} group @returns {string[]} */
+export const actionsOf = ({ items }) => [...new Set(items.map((each) => each.action))];
+
+/** @param {ItemGroup} group @returns {string[]} */
+export const resourcesOf = ({ items }) => [...new Set(items.map((each) => each.resource))];
+
+/** @param {ListRow} row */
+export const isToDo = (row) => row.state === 'open' || row.state === 'fell';
+
+/** @param {string} state */
+export const stateWords = (state) => WORDS[state] ?? state;
+
+/**
+ * The first few names as one text.
+ * @param {string[]} names
+ */
+const some = (names) => names.slice(0, 3).map(shown).join(', ')
+  + (names.length > 3 ? ` and ${number(names.length - 3)} more` : '');
+
+/** A list of rows. Who is told that the mark moved shows the row at the side. */
+export class SignList {
+  /** @param {(row: ListRow) => void} moved @param {(event: KeyboardEvent) => void} key */
+  constructor(moved, key) {
+    this.moved = moved;
+    /** @type {ListRow[]} */
+    this.rows = [];
+    this.at = 0;
+    this.box = el('div.items', { role: 'listbox', tabindex: 0, 'aria-label': 'What is to be signed', onkeydown: key });
+  }
+
+  /** @param {ListRow[]} rows @param {number} at */
+  fill(rows, at) {
+    this.rows = rows;
+    this.at = Math.max(0, Math.min(rows.length - 1, at));
+    this.box.replaceChildren(...rows.map((_, i) => this.made(i)));
+    this.mark();
+  }
+
+  /** The row that has the mark. */
+  get row() { return this.rows[this.at]; }
+
+  /** @param {number} i */
+  made(i) {
+    const row = this.rows[i], { group, state } = row, before = this.rows[i - 1];
+    const isFirst = !before || rulesIn(before.group) !== rulesIn(group);
+    return el(`div.item.${state}${isFirst ? '.first' : ''}${row.waits ? '.waits' : ''}`, { role: 'option',
+      id: `item${i}`, 'aria-selected': String(i === this.at), onclick: () => this.go(i) },
+    el('span.sign', { 'aria-hidden': 'true' }, SIGNS[state]), el('span.who', {}, name(group.person)),
+    el('span.rule', {}, name(rulesIn(group))), el('span.acts', {}, some(actionsOf(group))),
+    el('span.res', {}, some(resourcesOf(group))), el('span.n', {}, plural(group.items.length, 'cell')),
+    el('span.word', {}, row.fault ? 'not signed' : stateWords(state)));
+  }
+
+  /** @param {number} i */
+  draw(i) { this.box.children[i]?.replaceWith(this.made(i)); }
+
+  /** @param {ListRow} row */
+  drawRow(row) { this.draw(this.rows.indexOf(row)); }
+
+  mark() {
+    if (this.rows.length) this.box.setAttribute('aria-activedescendant', `item${this.at}`);
+    else this.box.removeAttribute('aria-activedescendant');
+  }
+
+  /** @param {number} i */
+  go(i) {
+    if (!this.rows.length) return;
+    const old = this.at;
+    this.at = Math.max(0, Math.min(this.rows.length - 1, i));
+    this.draw(old);
+    this.draw(this.at);
+    this.mark();
+    this.box.children[this.at].scrollIntoView({ block: 'nearest' });
+    this.moved(this.row);
+  }
+
+  /** The place of the next row to do, behind the mark or else from the beginning; -1 where there is none. */
+  next() {
+    const behind = this.rows.findIndex((row, i) => i > this.at && isToDo(row));
+    return behind >= 0 ? behind : this.rows.findIndex(isToDo);
+  }
+}
+
