@@ -15,7 +15,7 @@ import tempfile
 
 try:
     from selenium.common.exceptions import WebDriverException
-    from desk import access, large, live, paper, questions, trial as trials, views
+    from desk import access, large, live, paper, questions, reviews, trial as trials, views
 except ImportError:
     WebDriverException = None
 
@@ -56,7 +56,8 @@ def main():
         return 3
     faults, browser = [], trials.started()
     try:
-        for attempt in [*views.TRIALS, *live.TRIALS, *access.TRIALS, *paper.TRIALS, *questions.TRIALS, *large.TRIALS]:
+        for attempt in [*views.TRIALS, *live.TRIALS, *access.TRIALS, *paper.TRIALS, *questions.TRIALS,
+                        *reviews.TRIALS, *large.TRIALS]:
             if options.only in attempt.__name__:
                 found = attempted(attempt, browser, options)
                 faults += found

@@ -71,6 +71,9 @@ export function sign(campaign, row, kind, serial, more = {}) {
   });
 }
 
+/** Whether something was signed that can be taken back. */
+export const canUndo = () => kept.length > 0;
+
 /**
  * Takes back the last sign-off that was made here; which row that was.
  * @param {string} campaign @returns {ListRow | null}

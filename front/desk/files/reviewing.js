@@ -54,11 +54,11 @@ export const act = async (name, what, body) => (await send(`/campaigns/${name}/$
 export const isKnown = () => desk.who.roles.length > 0;
 
 /** The names by which who asks reviews. */
-export const ownNames = () => [desk.who.name, desk.who.person ?? ''].filter(Boolean);
+export const ownNames = () => [...new Set([desk.who.name, desk.who.person ?? ''])].filter(Boolean);
 
 /** The states of groups, in words. */
 export const STATES = /** @type {Record<string, string>} */ ({
-  open: 'to do', fell: 'fallen', kept: 'kept', revoke: 'to be revoked', revoked: 'revoked', gone: 'out of scope',
+  open: 'to do', fell: 'fallen', kept: 'kept', revoke: 'to revoke', revoked: 'revoked', gone: 'out of scope',
 });
 
 /** What became of a sign-off in the campaign before, in words. */
@@ -96,7 +96,7 @@ export const editLink = (edit, words) => (may('changes')
  * Who did something, when and at which serial.
  * @param {{by: string, time: string, serial: number}} done
  */
-export const doneBy = ({ by, time, serial }) => `${by}, ${moment(time)}, serial ${number(serial)}`;
+export const doneBy = ({ by, time, serial }) => `by ${by}, ${moment(time)}, serial ${number(serial)}`;
 
 /** @param {Campaign} told */
 export const signedOf = ({ states }) => (states.kept ?? 0) + (states.revoke ?? 0) + (states.revoked ?? 0);
@@ -109,6 +109,6 @@ export function farWords(told) {
   const { open = 0, fell = 0, kept = 0, revoke = 0, revoked = 0, gone = 0 } = told.states, done = signedOf(told);
   const rest = told.items - gone, share = rest ? Math.floor((100 * done) / rest) : 100;
   return `${number(done)} of ${plural(rest, 'cell')} are signed (${share} %): ${number(kept)} kept, ${
-    number(revoke)} to be revoked, ${number(revoked)} revoked. ${number(fell)} fell, ${number(open)} are to do${
+    number(revoke)} to revoke, ${number(revoked)} revoked. ${number(fell)} fell, ${number(open)} are to do${
     gone ? `; ${number(gone)} are out of scope by now` : ''}.`;
 }

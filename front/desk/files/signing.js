@@ -14,7 +14,7 @@ import { pathWords } from './cell.js';
 export const title = 'Sign-off', needs = ['campaign.items'];
 
 const SHOWN = /** @type {[string, string][]} */ ([['', 'everything'], ['open fell', 'to do'], ['kept', 'kept'],
-  ['revoke', 'to be revoked'], ['fell', 'fallen']]);
+  ['revoke', 'to revoke'], ['fell', 'fallen']]);
 
 let name = '', reviewer = '', only = '', serial = 0, late = 0, isMore = false;
 /** @type {Campaign} */
@@ -23,6 +23,8 @@ let campaign;
 let list;
 /** @type {HTMLElement} */
 let head;
+/** @type {HTMLElement} */
+let note;
 let stop = () => {};
 
 /** What came since the last sign-off stands first: what fell, then what has another answer. */
@@ -52,7 +54,7 @@ function drawHead() {
   head.replaceChildren(el('progress', { max: Math.max(1, all), value: done, 'aria-label': 'Signed' }),
     el('span', {}, el('b', {}, `${number(done)} of ${number(all)}`), ' rows signed',
       all ? ` (${Math.floor((100 * done) / all)} %)` : ''),
-    el('span', {}, `${number(count.kept)} kept`), el('span', {}, `${number(count.revoke)} to be revoked`),
+    el('span', {}, `${number(count.kept)} kept`), el('span', {}, `${number(count.revoke)} to revoke`),
     el('span', {}, `${number(count.fell)} fallen`), el('span', {}, `${number(count.open)} to do`));
 }
 
@@ -77,6 +79,7 @@ function isReady() {
  * @param {import('./acts.js').Kind} kind @param {any} [more] @param {ListRow} [row]
  */
 function signed(kind, more, row = list.row) {
+  note.replaceChildren();
   sign(name, row, kind, serial, more);
   list.drawRow(row);
   drawHead();
@@ -140,6 +143,7 @@ async function read() {
 /** Reads all anew, and leaves the mark and the order as they are. */
 async function again() {
   if (isBusy()) return; // it is read once nothing is on its way
+  forget();
   const old = list, isHere = () => list === old && !isBusy();
   const rows = await read().catch(() => null);
   if (!rows || !isHere()) return;
@@ -166,8 +170,8 @@ function later() {
 
 hooks.drawn = (row) => list?.drawRow(row);
 hooks.failed = (row, words) => {
-  forget();
-  say(`Not signed: ${shown(row.group.person)}: ${words}`);
+  note.append(el('p.fault', { role: 'alert' }, `Not signed: ${shown(row.group.person)} by ${shown(
+    rulesIn(row.group))}: ${shown(words)}.`));
   drawHead();
 };
 hooks.idle = later;
@@ -180,7 +184,7 @@ function top() {
   const names = reviewers().map((each) => /** @type {[string, string]} */ ([each, shown(each)]));
   return bar(may('campaign.all') ? menu('reviewer', 'Reviewer', [['', 'everybody'], ...names], reviewer,
     (chosen) => go({ reviewer: chosen })) : null,
-  menu('only', 'Show', SHOWN, only, (chosen) => go({ only: chosen })), head, printing());
+  menu('only', 'Show', SHOWN, only, (chosen) => go({ only: chosen })), printing());
 }
 
 /** @param {HTMLElement} place @param {URLSearchParams} query @param {() => boolean} isOpen */
@@ -190,14 +194,15 @@ export async function show(place, query, isOpen) {
   if (!isOpen()) return;
   rows.sort((a, b) => rankOf(a) - rankOf(b));
   list = new SignList(moved, key);
-  head = el('div.progress', { role: 'status' });
+  head = el('span.progress', { role: 'status' });
+  note = el('div');
   const { ends } = campaign.campaign;
-  place.replaceChildren(top(), el('p.keys.lines', {}, link('campaign', { campaign: name }, name),
-    ends ? `, until ${ends}` : '', campaign.ended ? `. It ended ${moment(campaign.ended.time)}.` : '.',
-    ' What fell, and what has another answer than before, stands first.',
-    isMore ? ` The first ${plural(rows.length, 'row')} are here.` : ''),
+  place.replaceChildren(top(), el('div.keys.lines', {}, el('span', {}, link('campaign', { campaign: name }, name),
+    campaign.ended ? `, ended ${moment(campaign.ended.time)}` : ends ? `, until ${ends}` : ''), head,
+  isMore ? `The first ${plural(rows.length, 'row')} are here.` : ''), note,
   rows.length ? list.box : el('p.empty', {}, 'Nothing is here to be signed.'),
-  el('p.keys', {}, 'J and K or the arrows move, Y keeps, X asks to revoke, N passes on, U takes the last act back.'));
+  el('p.keys', {}, 'J and K or the arrows move, Y keeps, X asks to revoke, N passes on, U takes the last act back. ',
+    'What fell, and what has another answer than before, stands first.'));
   list.fill(rows, Math.max(0, rows.findIndex(isToDo)));
   drawHead();
   stop();

@@ -6,6 +6,7 @@ import { open } from './panel.js';
 import { el, few, link, name, number, plural } from './words.js';
 import { doneBy, editLink, editOf, isKnown, itemOf, lastWords, ownNames } from './reviewing.js';
 import { actionsOf, isToDo, rulesIn } from './signlist.js';
+import { canUndo } from './acts.js';
 
 /** @typedef {{told: Awaited<ReturnType<typeof itemOf>>, rules: any[]}} Details */
 /** @typedef {{keep: () => void, revoke: () => void, pass: () => void, undo: () => void}} Acts */
@@ -58,11 +59,11 @@ export const prefetch = (campaign, row) => {
  */
 function signedWords({ signed, by, back }) {
   if (!signed) return null;
-  const how = signed.as === 'keep' ? 'Kept' : 'To be revoked';
-  return [`${how} by `, name(doneBy(signed)), signed.from ? [' in ', name(signed.from)] : '', signed.why
+  const how = signed.as === 'keep' ? 'Kept ' : 'To be revoked ';
+  return [how, name(doneBy(signed)), signed.from ? [' in ', name(signed.from)] : '', signed.why
     ? [': “', name(signed.why), '”'] : '', '. ',
-  by ? ['It ended by ', editLink(by, name(editOf(by))), ', ', name(doneBy(by)), back
-    ? '. The answer is again the one that was signed.' : '.'] : null];
+  by ? ['That ended with ', editLink(by, name(editOf(by))), ', ', name(doneBy(by)), back
+    ? '. The answer is again the one that was signed. ' : '. '] : null];
 }
 
 /**
@@ -74,7 +75,7 @@ function whatHappened({ items }) {
     JSON.stringify([signed?.serial, by?.serial, back, changed?.serial, last]);
   return gathered(items, key).slice(0, 3).flatMap(([first, ...others], _, all) => {
     const { changed, last, signed } = first, words = signedWords(first);
-    const since = changed && !signed && ['Its answer changed by ', editLink(changed, name(editOf(changed))), ', ',
+    const since = changed && !signed && ['Its answer changed with ', editLink(changed, name(editOf(changed))), ', ',
       name(doneBy(changed)), '. '];
     const before = lastWords(last ?? '');
     if (!words && !since && !before) return [];
@@ -113,7 +114,7 @@ function buttons({ group, state }, acts, isEnded) {
   return el('p.acts', {}, isGone || state === 'kept' ? null : button('Keep', 'Y', acts.keep),
     isGone || state === 'revoke' ? null : button('Revoke', 'X', acts.revoke),
     isToDo({ group, state, waits: 0, fault: '' }) ? button('Not mine', 'N', acts.pass) : null,
-    button('Take back', 'U', acts.undo));
+    canUndo() ? button('Undo', 'U', acts.undo) : null);
 }
 
 /**
