@@ -62,14 +62,20 @@ function takenWords({ campaign, taken, asked }) {
     why.length ? `; asked again are ${listed(why)}.` : '.');
 }
 
+/** @param {HTMLElement} table */
+const narrow = (table) => {
+  table.classList.add('narrow');
+  return table;
+};
+
 /** @param {Campaign} told */
 function reviewerTable({ reviewers, campaign }) {
   const all = Object.entries(reviewers).sort(([, a], [, b]) => b.open + b.fell - a.open - a.fell);
   if (!all.length) return el('p.quiet', {}, 'Nobody has anything to sign.');
   const to = (/** @type {string} */ who) => (may('campaign.all')
     ? link('signing', { campaign: campaign.name, reviewer: who, only: 'open fell' }, name(who)) : name(who));
-  return tableOf(['Reviewer', '#To do', '#Fallen'], all.map(([who, count]) =>
-    [to(who), number(count.open), number(count.fell)]), 'Who has something to sign');
+  return narrow(tableOf(['Reviewer', '#To do', '#Fallen'], all.map(([who, count]) =>
+    [to(who), number(count.open), number(count.fell)]), 'Who has something to sign'));
 }
 
 /** @param {Campaign} told */
@@ -127,13 +133,14 @@ export async function show(place, query, isOpen) {
   if (!isOpen()) return;
   shown = told_;
   const rest = shown.items - (shown.states.gone ?? 0);
-  place.replaceChildren(bar(el('span.progress', {}, el('progress', { max: Math.max(1, rest), value: signedOf(shown),
-    'aria-label': 'Signed' })), may('campaign.items') ? link('signing', { campaign: wanted }, 'Its list') : null,
-  printing()), el('div.page', {}, el('h1', {}, name(wanted)),
-    el('p.lead', { role: 'status' }, farWords(shown)), takenWords(shown), definition(shown),
+  place.replaceChildren(bar(el('span.there', {}, link('campaigns', {}, 'All campaigns'), may('campaign.items')
+    ? [' · ', link('signing', { campaign: wanted }, 'What there is to sign')] : null), printing()),
+  el('div.page', {}, el('h1', {}, name(wanted)), el('p.lead', { role: 'status' }, farWords(shown)),
+    el('progress', { max: Math.max(1, rest), value: signedOf(shown), 'aria-label': 'Signed' }), takenWords(shown),
     el('h2', {}, 'Who has something to sign'), reviewerTable(shown),
     tasks ? [el('h2', {}, 'What is to be revoked, and still there'), tasksTable(tasks)] : null,
-    el('h2', {}, 'What fell, and by which edit'), fellTable(shown), evidence(), ending()));
+    el('h2', {}, 'What fell, and by which edit'), fellTable(shown), evidence(),
+    el('h2', {}, 'What it is'), definition(shown), ending()));
   stop();
   stop = listen({ event({ event, id }) {
     if (isOpen() && (event !== 'from' || Number(id) > shown.up_to)) later();

@@ -77,9 +77,9 @@ export const lastWords = (last) => LAST[last] ?? '';
  */
 export function editOf({ kind, entity, unknown }) {
   if (unknown) return 'edits of which it isn’t known any more what they changed';
-  if (kind === 'attr.set') return `values of ${entity}`;
+  if (kind === 'attr.set') return `values of ${entity} set`;
   const [what, verb] = kind.split('.');
-  if (verb === 'set') return `another ${what}`;
+  if (verb === 'set') return `another ${what} set`;
   const done = /** @type {Record<string, string>} */ ({ add: 'added', drop: 'dropped', replace: 'replaced',
     withdraw: 'withdrawn' })[verb] ?? verb;
   return `${what} ${entity} ${done}`;

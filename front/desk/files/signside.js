@@ -62,7 +62,7 @@ function signedWords({ signed, by, back }) {
   const how = signed.as === 'keep' ? 'Kept ' : 'To be revoked ';
   return [how, name(doneBy(signed)), signed.from ? [' in ', name(signed.from)] : '', signed.why
     ? [': “', name(signed.why), '”'] : '', '. ',
-  by ? ['That ended with ', editLink(by, name(editOf(by))), ', ', name(doneBy(by)), back
+  by ? ['It fell: ', editLink(by, name(editOf(by))), ' ', name(doneBy(by)), back
     ? '. The answer is again the one that was signed. ' : '. '] : null];
 }
 
@@ -75,7 +75,7 @@ function whatHappened({ items }) {
     JSON.stringify([signed?.serial, by?.serial, back, changed?.serial, last]);
   return gathered(items, key).slice(0, 3).flatMap(([first, ...others], _, all) => {
     const { changed, last, signed } = first, words = signedWords(first);
-    const since = changed && !signed && ['Its answer changed with ', editLink(changed, name(editOf(changed))), ', ',
+    const since = changed && !signed && ['Its answer changed: ', editLink(changed, name(editOf(changed))), ' ',
       name(doneBy(changed)), '. '];
     const before = lastWords(last ?? '');
     if (!words && !since && !before) return [];

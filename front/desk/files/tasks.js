@@ -59,8 +59,9 @@ async function tryEnds(group, place) {
       number(told.counts.gained), to]);
   }
   place.replaceChildren(el('div', {}, el('p', { role: 'status' }, rows.length
-    ? 'Without the value, these would be gone, and that would happen besides:' : 'No value of hers or its gave this.'),
-  rows.length ? tableOf(['Value', 'Of this task', '#Permits lost', '#gained', ''], rows, 'What would take it away')
+    ? 'Without the value, so much of this task would be gone, and so many Permits in all:'
+    : 'No value of the person or the resource gave this.'),
+  rows.length ? tableOf(['Value', 'Of this task', '#Permits lost', '#Gained', ''], rows, 'What would take it away')
     : null));
 }
 
@@ -77,14 +78,17 @@ const ruleWords = ({ explain }) => (explain?.answer.why ?? []).map((entry) => el
  */
 function taskRow(group) {
   const [task] = group, place = el('div'), canTry = may('attr.set') && may('table');
+  const below = el('tr.below', { hidden: true }, el('td', { colspan: 5 }, place));
   const cell = (/** @type {string} */ resource) => (may('explain') ? el('button.link', { type: 'button',
     onclick: () => openCell(task.person, task.action, resource, '') }, name(resource)) : name(resource));
-  return el('tr', {}, el('td', {}, may('names') ? link('person', { person: task.person }, name(task.person))
+  return [el('tr', {}, el('td', {}, may('names') ? link('person', { person: task.person }, name(task.person))
     : name(task.person)), el('td', {}, name(task.action)), el('td', {}, few(group.map(({ resource }) => resource),
     cell)), el('td', {}, ruleWords(task)),
   el('td', {}, '“', name(task.signed.why ?? ''), '”', el('div.quiet', {}, name(doneBy(task.signed))),
-    canTry ? el('p.acts', {}, el('button', { type: 'button', onclick: () => tryEnds(group, place) },
-      'What would take it away?')) : null, place));
+    canTry ? el('p.acts', {}, el('button', { type: 'button', onclick: () => {
+      below.hidden = false;
+      tryEnds(group, place);
+    } }, 'What would take it away?')) : null)), below];
 }
 
 /** @param {{tasks: Task[], more: boolean}} told */
@@ -93,6 +97,6 @@ export function tasksTable({ tasks, more }) {
   const groups = gathered(tasks, ({ person, action, signed, explain }) =>
     JSON.stringify([person, action, signed.serial, (explain?.answer.why ?? []).map((entry) => entry.rule)]));
   return [el('p.quiet', {}, 'A task closes by itself as soon as its answer is no Permit any more.'),
-    tableOf(['Person', 'Action', 'Resources', 'Given by', 'Why it is to go'], groups.map(taskRow), 'Tasks'),
+    tableOf(['Person', 'Action', 'Resources', 'Given by', 'Why it is to go'], groups.flatMap(taskRow), 'Tasks'),
     more ? el('p.quiet', {}, 'More come once these are done.') : null];
 }
