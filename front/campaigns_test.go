@@ -28,6 +28,7 @@ func person(name, listed string, roles ...string) string {
 
 // groupsOf are items of a campaign as a front tells them.
 type groupsOf struct {
+	Called map[string]string
 	Groups []struct {
 		Person, State, Reviewer, Digest string
 		Items                           []struct {

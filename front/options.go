@@ -19,6 +19,7 @@ type options struct {
 	attributeModules int
 	policyModules    int
 	moduleNames      string
+	called           string
 	limits           limits.Limits
 	journal          string
 	stream           jetstream.Options
@@ -134,6 +135,8 @@ func (o *options) name(set *flag.FlagSet) {
 	set.IntVar(&o.attributeModules, "attribute-modules", 2, "how many modules of attributes the program has")
 	set.StringVar(&o.moduleNames, "module-names", "", "the `names` of the modules of attributes, in their order and with "+
 		"commas between, which /attributes and /explain tell too")
+	set.StringVar(&o.called, "people-called", "", "the `attribute` of people that has the name by which each is called, "+
+		"as displayName, which the desk shows")
 	set.IntVar(&o.policyModules, "policy-modules", 2, "how many modules of policies the program has")
 	o.limits.Name(set.IntVar)
 	set.StringVar(&o.journal, "journal", "", "the `folder` of journals and snapshots, which is made if it isn't there")

@@ -97,9 +97,9 @@ func serve(ctx context.Context, again <-chan os.Signal, o options, log *logs.Log
 		ByHeader: o.byHeader, Trusted: o.trusted,
 		SessionIdle: o.sessionIdle, BodyTime: o.bodyTime, StreamIdle: o.streamIdle, WriteTime: o.writeTime,
 		DryTime: o.dryTime, Access: who.gate, Rights: who.rights, Signed: secrets.signed(),
-		Oldest: o.oldest,
+		Oldest: o.oldest, ModuleNames: o.modules(), Called: o.called,
 	})
-	site.Head, site.ModuleNames = signed.Now, o.modules()
+	site.Head = signed.Now
 	k.Edited = site.Edited
 	go secrets.follow(ctx, again, site, log)
 	defer site.TellRefused(true)

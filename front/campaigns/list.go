@@ -67,6 +67,8 @@ type Page struct {
 	Groups   []Group `json:"groups"`
 	More     bool    `json:"more"`
 	Serial   uint64  `json:"serial"`
+	// Called is what people are called, where that is known.
+	Called map[string]string `json:"called,omitempty"`
 	// Stale are items whose answers have to be asked again.
 	Stale []uint32 `json:"-"`
 }

@@ -64,7 +64,7 @@ interface Lists {
   places: { people: Map<string, number>; actions: Map<string, number>; resources: Map<string, number> };
 }
 
-interface Who { name: string; person?: string; roles: string[]; commands: string[] }
+interface Who { called?: string; name: string; person?: string; roles: string[]; commands: string[] }
 
 // An edit that did something to items of a campaign.
 interface ItemEdit { serial: number; time: string; by: string; kind: string; entity: string; unknown?: boolean }

@@ -26,8 +26,8 @@ var needs = map[string]string{
 	"/campaigns/{campaign}/keep":   "campaign.keep",
 	"/campaigns/{campaign}/revoke": "campaign.revoke", "/campaigns/{campaign}/pass": "campaign.pass",
 	"/campaigns/{campaign}/undo": "campaign.undo", "/campaigns/{campaign}/close": "campaign.close",
-	"/documents/check": "documents",
-	"/sessions":        "mark", "/sessions/{session}": "mark", "/sessions/{session}/mark": "mark",
+	"/documents/check": "documents", "/called": "attributes",
+	"/sessions": "mark", "/sessions/{session}": "mark", "/sessions/{session}/mark": "mark",
 	"/sessions/{session}/notices": "notices",
 	"/access/v1/search/subject":   "cells", "/access/v1/search/action": "cells", "/access/v1/search/resource": "cells",
 }

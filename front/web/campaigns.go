@@ -305,6 +305,9 @@ func (s *Server) campaignItems(w *answered, r *http.Request, keys map[string]str
 		return
 	}
 	page, err := s.page(r.Context(), name, asked)
+	if err == nil {
+		err = s.callPeople(r.Context(), page)
+	}
 	if err != nil {
 		problemFor(err).send(w)
 		return

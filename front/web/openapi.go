@@ -35,6 +35,9 @@ var operations = map[string]operation{
 	"GET /openapi.json": telling("Describes the paths.", "openapi"),
 	"GET /desk/{file}":  {does: "Gives a file of the desk, which a browser is answered at /.", gives: deskTypes},
 	"GET /whoami":       telling("Tells who asks, and which commands he has.", "commands"),
+	"GET /called": {
+		does: "Tells what people are called.", gives: []string{jsonType}, has: "called", keys: calledKeys,
+	},
 	"POST /lines": {
 		does: "Answers commands, one in each line. With dry it tells what they change, with whole it makes all or none. " +
 			"With strict the status says whether each was accepted, with count a last line and the field Review-Count behind " +

@@ -46,6 +46,9 @@ func (s *Server) routes() []route {
 		{http.MethodGet, "/readyz", s.ready},
 		{http.MethodGet, "/metrics", func(w *answered, r *http.Request, _ map[string]string) { s.metrics.ServeHTTP(w, r) }},
 	}
+	if s.Called != "" {
+		all = append(all, route{http.MethodGet, "/called", s.called})
+	}
 	all = append(all, s.campaignRoutes()...)
 	for _, q := range questions {
 		serve := s.asking(q)

@@ -43,6 +43,8 @@ type Options struct {
 	Beat        time.Duration    // how often a listener hears something; 0: as Beat says
 	// ModuleNames are the names of the modules of attributes, in their order; none: modules are told by number alone.
 	ModuleNames []string
+	// Called is the attribute of people that has the name by which each is called; nothing: none has.
+	Called string
 	// RefusedEvery is how often it is logged what was refused; 0: each minute.
 	RefusedEvery time.Duration
 	// Oldest is how old a sign-off may be that a campaign takes over which doesn't say it, as 365d; nothing: as old as

@@ -16,11 +16,12 @@ func (s *Server) whoami(w *answered, r *http.Request, _ map[string]string) {
 		return
 	}
 	told := struct {
+		Called   string   `json:"called,omitempty"` // the attribute that has what people are called
 		Commands []string `json:"commands"`
 		Name     string   `json:"name"`
 		Person   string   `json:"person,omitempty"`
 		Roles    []string `json:"roles"`
-	}{Commands: access.Commands(), Name: name, Roles: []string{}}
+	}{Called: s.Called, Commands: access.Commands(), Name: name, Roles: []string{}}
 	if v := visitIn(r.Context()); v != nil && v.last() != nil {
 		who := v.last()
 		told.Commands, told.Roles = []string{}, who.Roles()

@@ -4,6 +4,7 @@ import { desk } from './state.js';
 import { el, link, name, number, plural, tableOf } from './words.js';
 import { labelled } from './bar.js';
 import { cellLink } from './known.js';
+import { who } from './called.js';
 import { forgetPair, keepPair, pairs } from './pairs.js';
 
 /** @typedef {import('./pairs.js').Pair} Pair */
@@ -72,7 +73,7 @@ export async function both(query, at, go) {
   const side = (/** @type {string} */ text) => ({ actions: namesIn(text), resources: [] });
   const found = await conflicts(side(pair.left), side(pair.right), same, at);
   const row = (/** @type {Conflict} */ { person, left, right }) =>
-    [link('person', { person, at }, name(person)), sideOf(person, left, at), sideOf(person, right, at)];
+    [link('person', { person, at }, who(person)), sideOf(person, left, at), sideOf(person, right, at)];
   return {
     made: [form, el('p.lead', { role: 'status' },
       `${plural(found.length, 'person', 'people')} may do both${same ? ' to the same resource' : ''}.`),

@@ -5,6 +5,7 @@ import { decided, el, link, listed, name, number, plural, say, shown, tail, word
 import { find, ruleWords } from './rulewords.js';
 import { open } from './panel.js';
 import { holderOf } from './made.js';
+import { who } from './called.js';
 
 /** @param {Entry} entry */
 export const pathWords = (entry) => entry.path.map(([, id, version]) => `${id} ${version}`).join(' › ');
@@ -176,7 +177,7 @@ export async function openCell(person, action, resource, at, then) {
   if (now !== turn) return;
   const { answer, facts, serial, more } = told, before = at ? undefined : changed.get(key);
   open([
-    el('h2', { 'data-cell': key }, link('person', { person, at }, name(person)), el('span.quiet', {}, ' may '),
+    el('h2', { 'data-cell': key }, link('person', { person, at }, who(person)), el('span.quiet', {}, ' may '),
       name(action),
       el('span.quiet', {}, ' on '), link('resource', { resource, at }, name(resource)), el('span.quiet', {}, '?')),
     el('p.verdict', {}, decided(answer.decision)),

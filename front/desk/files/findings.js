@@ -7,6 +7,7 @@ import { causeWords, pathWords } from './cell.js';
 import { gathered, holderOf } from './made.js';
 import { cellLink, ruleLink } from './known.js';
 import { both } from './both.js';
+import { who } from './called.js';
 
 export const title = 'Findings', needs = ['names'];
 
@@ -33,7 +34,7 @@ const resourcesOf = (group) => few(group.map(({ resource }) => resource), (resou
   cellLink(group[0].person, group[0].action, resource, at, name(resource)));
 
 /** @param {string} person */
-const personLink = (person) => link('person', { person, at }, name(person));
+const personLink = (person) => link('person', { person, at }, who(person));
 
 /**
  * By which attribute, said by whom, people are grouped.

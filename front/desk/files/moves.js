@@ -1,6 +1,7 @@
 // What changed: lost first, then gained, then what is otherwise; one row for a person, an action and a direction.
 import { el, decided, few, link, name, number } from './words.js';
 import { gathered } from './made.js';
+import { who } from './called.js';
 
 const isPermit = (/** @type {string | null} */ decision) => decision === 'Permit';
 
@@ -29,7 +30,7 @@ export const joined = (changes) => gathered(changes, ({ person, action, before, 
 function rowsOf(changes, at, label) {
   const all = joined(changes), first = all.slice(0, 200);
   const row = (/** @type {{of: Change, resources: string[]}} */ { of, resources }) => el('tr', {},
-    el('td', {}, link('person', { person: of.person, at }, name(of.person))), el('td', {}, name(of.action)),
+    el('td', {}, link('person', { person: of.person, at }, who(of.person))), el('td', {}, name(of.action)),
     el('td', {}, few(resources, (resource) => link('table', {
       action: of.action, person: of.person, resource, find: of.person, at }, name(resource)))),
     el('td', {}, decided(of.before)), el('td', {}, of.before === of.after

@@ -5,6 +5,7 @@ import { address, el, few, link, name, number, plural, tableOf } from './words.j
 import { asOf, bar, choosing, printing } from './bar.js';
 import { pathWords } from './cell.js';
 import { knownOf, rulesOf } from './known.js';
+import { who } from './called.js';
 
 export const title = 'Person', needs = ['names'];
 
@@ -44,7 +45,7 @@ export async function show(place, query, isOpen) {
     totals({ people: { at: [place_] } }, at), attributes('AccessSubject', person, at)]);
   if (!isOpen()) return;
   given = all.sort((a, b) => b.cells - a.cells);
-  place.replaceChildren(top, ...then, el('div.page', {}, el('h1', {}, name(person)),
+  place.replaceChildren(top, ...then, el('div.page', {}, el('h1', {}, who(person)),
     el('p.lead', { role: 'status' }, sentence(counted.totals.people[0])),
     el('p', {}, link('table', { action: lists.actions[0], find: person, at }, 'In the table'), ' · ',
       may('changes') ? link('changes', { entity: person }, 'Edits of this person') : null, ' · ',

@@ -6,6 +6,7 @@ import { asOf, bar, choosing, printing } from './bar.js';
 import { entryKey, gathered } from './made.js';
 import { pathWords } from './cell.js';
 import { knownOf, rulesOf } from './known.js';
+import { who } from './called.js';
 
 export const title = 'Resource', needs = ['names'];
 
@@ -28,7 +29,7 @@ const joined = (all) => gathered(all, (grant) => JSON.stringify([grant.entries.m
 /** @param {typeof given[0]} group */
 const row = (group) => [rulesOf(group.entries, at),
   few(group.actions, (action) => link('table', { action, find: resource, at }, name(action))),
-  few(group.people, (person) => link('person', { person, at }, name(person))), number(group.people.length),
+  few(group.people, (person) => link('person', { person, at }, who(person))), number(group.people.length),
     number(group.cells)];
 
 /** @param {HTMLElement} place @param {URLSearchParams} query @param {() => boolean} isOpen */

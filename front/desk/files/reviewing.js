@@ -2,6 +2,7 @@
 import { ask, query, send } from './ask.js';
 import { desk, may } from './state.js';
 import { link, moment, number, plural } from './words.js';
+import { learn } from './called.js';
 
 /** How many groups are asked for at once, and how many are shown at most. */
 const PAGE = 200, MOST = 5000;
@@ -27,6 +28,7 @@ export async function groupsOf(name, asked) {
       const { told } = await ask(`/campaigns/${name}/items${query(part)}`);
       isOne = turn === 3 || serial === 0 || serial === told.serial;
       serial = told.serial;
+      learn(told.groups.map((/** @type {ItemGroup} */ group) => group.person), told.called ?? {});
       groups.push(...told.groups);
       more = told.more;
     }

@@ -5,6 +5,7 @@ import { asOf, bar, labelled, printing } from './bar.js';
 import { gathered, holderOf } from './made.js';
 import { pathWords } from './cell.js';
 import { find, ruleText } from './rulewords.js';
+import { who } from './called.js';
 
 export const title = 'Rule', needs = ['by_rule'];
 
@@ -31,7 +32,7 @@ function joined(cells) {
 
 /** @param {typeof groups[0]} group */
 const row = (group) => [name(group.action),
-  few(group.people, (person) => link('person', { person, at }, name(person))),
+  few(group.people, (person) => link('person', { person, at }, who(person))),
   few(group.resources, (resource) => (group.people.length === 1
     ? link('table', { action: group.action, find: group.people[0], person: group.people[0], resource, at },
       name(resource))

@@ -10,6 +10,7 @@ import { campaign as told_, groupsOf, isKnown } from './reviewing.js';
 import { SignList, actionsOf, isToDo, resourcesOf, rulesIn, stateWords } from './signlist.js';
 import { askLine, forget, prefetch, showRow, side } from './signside.js';
 import { pathWords } from './cell.js';
+import { whoText } from './called.js';
 
 export const title = 'Sign-off', needs = ['campaign.items'];
 
@@ -250,8 +251,8 @@ export const sheetOf = (title_, filter, rows) => ({
     'When', '#Serial', 'Because', 'Ended by', 'Digest of the answers'],
   rows: rows.map(({ group, state }) => {
     const [{ signed, by }] = group.items;
-    return [group.person, group.why.map((entry) => `${pathWords(entry)} › ${entry.rule ?? 'by default'}`).join('; '),
-      actionsOf(group).join(', '), resourcesOf(group).join(', '), group.items.length, group.reviewer,
+    const rules = group.why.map((entry) => `${pathWords(entry)} › ${entry.rule ?? 'by default'}`);
+    return [whoText(group.person), rules.join('; '), actionsOf(group).join(', '), resourcesOf(group).join(', '), group.items.length, group.reviewer,
       stateWords(state), signed?.by ?? '', signed ? moment(signed.time) : '', signed?.serial ?? '', signed?.why ?? '',
       by ? `serial ${by.serial}, ${by.by}, ${moment(by.time)}` : '', group.digest];
   }),

@@ -1,6 +1,7 @@
 // The rows of a reviewer's list, of which one has the mark.
 import { el, name, number, plural, shown } from './words.js';
 import { STATES } from './reviewing.js';
+import { who } from './called.js';
 
 const SIGNS = /** @type {Record<string, string>} */ ({ open: '', fell: '!', kept: '✓', revoke: '✕', revoked: '✕',
   gone: '–', passed: '→' });
@@ -60,7 +61,7 @@ export class SignList {
     const isFirst = !before || rulesIn(before.group) !== rulesIn(group);
     return el(`div.item.${state}${isFirst ? '.first' : ''}${row.waits ? '.waits' : ''}`, { role: 'option',
       id: `item${i}`, 'aria-selected': String(i === this.at), onclick: () => this.go(i) },
-    el('span.sign', { 'aria-hidden': 'true' }, SIGNS[state]), el('span.who', {}, name(group.person)),
+    el('span.sign', { 'aria-hidden': 'true' }, SIGNS[state]), el('span.who', {}, who(group.person)),
     el('span.rule', {}, name(rulesIn(group))), el('span.acts', {}, some(actionsOf(group))),
     el('span.res', {}, some(resourcesOf(group))), el('span.n', {}, plural(group.items.length, 'cell')),
     el('span.word', {}, row.fault ? 'not signed' : stateWords(state)));

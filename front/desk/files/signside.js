@@ -7,6 +7,7 @@ import { el, few, link, name, number, plural } from './words.js';
 import { doneBy, editLink, editOf, isKnown, itemOf, lastWords, ownNames } from './reviewing.js';
 import { actionsOf, isToDo, rulesIn } from './signlist.js';
 import { canUndo } from './acts.js';
+import { who } from './called.js';
 
 /** @typedef {{told: Awaited<ReturnType<typeof itemOf>>, rules: any[]}} Details */
 /** @typedef {{keep: () => void, revoke: () => void, pass: () => void, undo: () => void}} Acts */
@@ -179,7 +180,7 @@ export async function showRow(campaign, row, acts, isEnded) {
       restOf(details, item, group.items.length === 1)));
   };
   open([
-    el('h2', {}, may('names') ? link('person', { person: group.person }, name(group.person)) : name(group.person),
+    el('h2', {}, may('names') ? link('person', { person: group.person }, who(group.person)) : who(group.person),
       el('span.quiet', {}, ' by '), name(rulesIn(group))),
     row.fault ? el('p.fault', { role: 'alert' }, 'Not signed: ', name(row.fault), '. Look at it again.') : null,
     whatHappened(group), buttons(row, acts, isEnded), el('div.line'), el('h3', {}, plural(group.items.length, 'cell')),

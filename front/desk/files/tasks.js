@@ -5,6 +5,7 @@ import { gathered } from './made.js';
 import { trial } from './trying.js';
 import { el, few, link, listed, name, number, plural, tableOf, tail } from './words.js';
 import { doneBy } from './reviewing.js';
+import { who } from './called.js';
 
 const LISTS = /** @type {Record<string, string>} */ ({ 'access-subject': 'people', resource: 'resources',
   action: 'actions' });
@@ -81,8 +82,8 @@ function taskRow(group) {
   const below = el('tr.below', { hidden: true }, el('td', { colspan: 5 }, place));
   const cell = (/** @type {string} */ resource) => (may('explain') ? el('button.link', { type: 'button',
     onclick: () => openCell(task.person, task.action, resource, '') }, name(resource)) : name(resource));
-  return [el('tr', {}, el('td', {}, may('names') ? link('person', { person: task.person }, name(task.person))
-    : name(task.person)), el('td', {}, name(task.action)), el('td', {}, few(group.map(({ resource }) => resource),
+  return [el('tr', {}, el('td', {}, may('names') ? link('person', { person: task.person }, who(task.person))
+    : who(task.person)), el('td', {}, name(task.action)), el('td', {}, few(group.map(({ resource }) => resource),
     cell)), el('td', {}, ruleWords(task)),
   el('td', {}, '“', name(task.signed.why ?? ''), '”', el('div.quiet', {}, name(doneBy(task.signed))),
     canTry ? el('p.acts', {}, el('button', { type: 'button', onclick: () => {
