@@ -278,7 +278,8 @@ scim/table.go . TestScimHold s/r\.Time\.Before(t\.free) {/false {/
 scim/kept.go . TestScimHold s/Held: t\.held, Gone: t\.gone}/Gone: t.gone}/
 scim/table.go . TestScimTogether s/^\tcase there\.Serial != r\.Of:$/\tcase false:/
 scim/table.go . TestScimWrong s/id != "" \&\& id != r\.ID {/id == r.Key {/
-scim/members.go . TestScim s/^\t\t\tt\.touch(r, id)$//
+scim/members.go . TestScim /t\.join(id, r\.ID)/{n;s/t\.touch(r, id)//}
+scim/members.go . TestScim /, there := set\.at\[id\]; there {/{n;s/t\.touch(r, id)//}
 scim/filter.go scim TestFilters s/if all = append(all, one); !p\.takes("and") {/if all = append(all, one); !p.takes("or") {/
 scim/match.go scim TestFilters s/return is != (c\.op == "ne")/return is/
 scim/list.go scim TestPages s/order < 0 || order == 0 \&\& keys\[i\]\.at < keys\[j\]\.at/order < 0/

@@ -24,7 +24,7 @@ function savedPairs(at) {
   if (!saved.length) return null;
   const row = (/** @type {Pair} */ pair) => el('li', {},
     link('findings', { what: 'both', ...pair, at },
-      name(`${pair.left} and ${pair.right}${pair.same === '0' ? '' : ', of the same resource'}`)), ' ',
+      name(`${pair.left} and ${pair.right}${pair.same === '0' ? '' : ', of the same resource'}`)), ' · ',
     el('button.link', { type: 'button', 'aria-label': `Forget ${pair.left} and ${pair.right}`, onclick: () => {
       forgetPair(pair);
       again();
