@@ -14,7 +14,7 @@ func callPerson(person, values string) string {
 
 // TestCalled has a front tell what people are called, to who may see their values, and to who reviews them.
 func TestCalled(t *testing.T) {
-	f, told := campaignsOpened(t, reviewing(t, entry("reader", "read")), "", "--people-called", "displayName")
+	f, told := campaignsOpened(t, reviewing(t, entry("reader", "read"), entry("signer", "review")), "", "--people-called", "displayName")
 	if told.Called != nil {
 		t.Errorf("nobody is called anything, and it is told %v", told.Called)
 	}
@@ -35,7 +35,7 @@ func TestCalled(t *testing.T) {
 		{"reader", "/called?person=ada&person=bruno&person=emil&person=nobody", 200, `{"called":{"ada":"Ada <Moss>"}}`},
 		{"reader", "/called", 200, `{"called":{}}`}, {"reader", many, 400, "at most 200 people"},
 		{"reader", "/called?name=ada", 400, "isn't known here"}, {"reader", "/whoami", 200, `"called":"displayName"`},
-		{"rita", "/called?person=ada", 403, "no role with attributes"},
+		{"signer", "/called?person=ada", 403, "no role with attributes"},
 	} {
 		got := f.as(t, one.who, http.MethodGet, one.path, "")
 		if got.status != one.status || !strings.Contains(got.body, one.says) {
