@@ -181,6 +181,8 @@ func TestScim(t *testing.T) {
 		}
 	}
 	patch("/Users/"+boss, `{"op":"replace","path":"userName","value":"Chief"}`, 200)
+	rows("ann", "cost=[12] department=[surgery] direct=[nurses] group=[nurses staff] hired=[2020-02-01] mail=[ann@work] "+
+		"manager=[chief] may=[x-ray] role=[lead nurse]") // at once: nothing of hers was sent
 	patch("/Groups/"+inner, `{"op":"replace","path":"displayName","value":"carers"}`, 204)
 	listed("ann", "chief")
 	rows("ann", "cost=[12] department=[surgery] direct=[carers] group=[carers staff] hired=[2020-02-01] mail=[ann@work] "+

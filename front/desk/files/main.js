@@ -82,6 +82,13 @@ async function route() {
   close(true);
   opened.view?.left?.();
   record.clear();
+  const lacks = view.needs.find((each) => !may(each));
+  if (lacks) {
+    opened.view = null;
+    place.replaceChildren(el('p.fault', { role: 'alert' },
+      `You may not see this: ${desk.who.name} has no role with ${lacks}.`));
+    return;
+  }
   try {
     const module = /** @type {View} */ (await view.load());
     if (now !== turn) return;
