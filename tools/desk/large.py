@@ -1,5 +1,8 @@
 """A table of 3,000 people by 14 actions by 300 resources, whose letters are made up in the browser: what it costs the
 page to show it and to scroll. Time is that of the page's own thread, since a busy machine's clock says little."""
+import pathlib
+import re
+
 from .trial import until
 
 # Answers to what the page asks of a front, made of the places of a cell alone.
@@ -35,6 +38,28 @@ def spent(trial):
     return told['TaskDuration'] * 1000, told['JSHeapUsedSize'] / 1e6
 
 
+def renderer(trial):
+    """How much memory the largest renderer of the browser takes, in MB, as the system counts it; 0 where it doesn't."""
+    parents, most = {}, 0
+    for each in pathlib.Path('/proc').glob('[0-9]*'):
+        try:
+            parents[int(each.name)] = int((each / 'stat').read_text(encoding='utf-8').rsplit(')', 1)[1].split()[1])
+        except OSError:
+            pass  # it has ended
+    for process in parents:
+        above = process
+        while above in parents and above != trial.browser.service.process.pid:
+            above = parents[above]
+        place = pathlib.Path(f'/proc/{process}')
+        try:
+            if above in parents and b'--type=renderer' in (place / 'cmdline').read_bytes():
+                told = re.search(r'Pss: +(\d+) kB', (place / 'smaps_rollup').read_text(encoding='utf-8'))
+                most = max(most, int(told[1]) / 1000 if told else 0)
+        except OSError:
+            pass
+    return most
+
+
 def try_large(trial):
     """What 12,600,000 cells cost the page: until the first letters, and for each screen of scrolling."""
     browser = trial.browser
@@ -53,12 +78,15 @@ def try_large(trial):
           if (frames < 60) requestAnimationFrame(step); else done(frames); };
         requestAnimationFrame(step);''')
     ended, memory = spent(trial)
-    each = (ended - begun) / frames
+    each, whole = (ended - begun) / frames, renderer(trial)
+    paint = browser.execute_script('return performance.getEntriesByName("first-paint")[0]?.startTime ?? 0')
     print(f'3,000 by 14 by 300: {first:.0f} ms of the page\'s thread until the first letters, {each:.1f} ms a screen '
-          f'of scrolling, {memory:.1f} MB of objects')
+          f'of scrolling, {memory:.1f} MB of objects, {whole:.0f} MB of the renderer; first paint after {paint:.0f} ms '
+          'by the clock')
     trial.see(f'until the first letters less than a second of the thread ({first:.0f} ms)', first < 1000, True)
     trial.see(f'a screen of scrolling at most 30 ms ({each:.1f} ms)', each <= 30, True)
     trial.see(f'objects of the page in less than 40 MB ({memory:.1f})', memory < 40, True)
+    trial.see(f'the renderer in less than 150 MB ({whole:.0f})', whole < 150, True)
     for _ in until('the letters of the last screen'):
         if browser.execute_script('const { grid } = window.desk, { firstRow, firstColumn } = grid.sight(); '
                                   'return Boolean(grid.picture.letter(firstRow, firstColumn))'):

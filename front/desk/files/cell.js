@@ -179,7 +179,8 @@ export async function openCell(person, action, resource, at, then) {
   open([
     el('h2', { 'data-cell': key }, link('person', { person, at }, who(person)), el('span.quiet', {}, ' may '),
       name(action),
-      el('span.quiet', {}, ' on '), link('resource', { resource, at }, name(resource)), el('span.quiet', {}, '?')),
+      el('span.quiet', {}, ' on '), el('span.whole', {}, link('resource', { resource, at }, name(resource)),
+        el('span.quiet', {}, '?'))),
     el('p.verdict', {}, decided(answer.decision)),
     answer.status === 'ok' ? null : el('p.quiet', {}, `Status: ${answer.status.replaceAll('-', ' ')}`),
     before === undefined ? null : el('p.was', {}, 'Changed since this page was opened. Before: ',
