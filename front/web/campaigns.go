@@ -305,14 +305,13 @@ func (s *Server) campaignItems(w *answered, r *http.Request, keys map[string]str
 		return
 	}
 	page, err := s.page(r.Context(), name, asked)
-	if err == nil {
-		err = s.callPeople(r.Context(), page)
-	}
 	if err != nil {
 		problemFor(err).send(w)
-		return
+	} else if wrong := s.callPeople(r.Context(), page); wrong != nil {
+		wrong.send(w)
+	} else {
+		tellJSON(w, page)
 	}
-	tellJSON(w, page)
 }
 
 // itemsQuery reads a query of items.

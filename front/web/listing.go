@@ -31,8 +31,11 @@ var listings = map[string]struct {
 	"resource.add": {authzen.Resource, true}, "resource.drop": {authzen.Resource, false},
 }
 
-// Edited changes which names are listed by edits that are on disk.
+// Edited changes which names are listed, and what people are called, by edits that are on disk.
 func (s *Server) Edited(edits []folder.Entry) {
+	if s.Called != "" {
+		s.calling.edited(s.Called, edits)
+	}
 	l := &s.listing
 	l.mutex.Lock()
 	defer l.mutex.Unlock()

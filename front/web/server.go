@@ -64,6 +64,7 @@ type Server struct {
 	metrics  http.Handler
 	known    []route
 	listing  listing
+	calling  calling
 	again    again           // tells requests that go on that something was read again
 	byLines  map[string]bool // the paths that whoever is known may ask for, since their lines are looked at
 	stopping chan struct{}   // closed when streams have to end

@@ -5,7 +5,7 @@ import { link, moment, number, plural } from './words.js';
 import { learn } from './called.js';
 
 /** How many groups are asked for at once, and how many are shown at most. */
-const PAGE = 200, MOST = 5000;
+const PAGE = 1000, MOST = 5000, TASKS = 200;
 
 /** @returns {Promise<Campaign[]>} */
 export const campaigns = async () => (await ask('/campaigns')).told.campaigns;
@@ -44,7 +44,7 @@ export async function groupsOf(name, asked) {
 export const itemOf = async (name, item) => (await ask(`/campaigns/${name}/items/${item}`)).told;
 
 /** @param {string} name @returns {Promise<{tasks: Task[], more: boolean}>} */
-export const tasksOf = async (name) => (await ask(`/campaigns/${name}/tasks${query({ count: PAGE })}`)).told;
+export const tasksOf = async (name) => (await ask(`/campaigns/${name}/tasks${query({ count: TASKS })}`)).told;
 
 /**
  * Sends an act: keep, revoke, pass, undo or close.
