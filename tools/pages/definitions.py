@@ -1,13 +1,17 @@
 #!/usr/bin/env python3
 """Keeps what the pages say of the definitions' modules, which stand in crates/*/specs.
 
-    definitions.py             writes the lists of docs/DEFINITIONS.md, and the numbers of lines into docs/READING.md
-    definitions.py --check     says whether they are up to date, whether the reading list is at most 600 lines long,
-                               whether each word on the headline's page is defined on a list or named in the notation,
-                               whether each module that holds a definition on which the page rests is on a list or
-                               under a head that says that it is the standard's evaluation, whether docs/VERIFIED.md
-                               names modules that there are, and whether no module outside of proofs_only rests on one
-                               of proofs_only; fails if not
+    definitions.py             writes the lists of docs/DEFINITIONS.md, and the numbers of lines into docs/READING.md:
+                               of a row that says which words of a module are read, those of these definitions
+    definitions.py --check     says whether they are up to date; whether the reading list is closed, and how many
+                               lines of it the clause of `serve_from` reaches, and how many types of the code with
+                               how many lines: each word on it is defined on it, named in the notation, or told in
+                               a table that isn't of the standard's evaluation, and at most 640 lines are reached;
+                               whether each word on the headline's page is defined on a list or named in the
+                               notation; whether each module that holds a definition on which the clauses of
+                               `serve_from` and of `run` rest is in a table; whether docs/VERIFIED.md names modules
+                               that there are; and whether no module outside of proofs_only rests on one of
+                               proofs_only; fails if not
     definitions.py --closure   prints all that the headline's page reaches by imports of modules, and what the other
                                modules reach besides
 
@@ -18,15 +22,19 @@ import textwrap
 
 sys.dont_write_bytecode = True
 from reached import CRATES, MEMBER, ROOT, TOP, USE, Followed, by_crate, closure, defined_in  # noqa: E402
-from reached import imports, is_apart, lines, modules, split, without_comments, without_imports  # noqa: E402
+from reached import definitions_of, imports, is_apart, lines, modules, split, type_lines  # noqa: E402
+from reached import without_comments, without_imports  # noqa: E402
 from standard import citations, order, title  # noqa: E402
 
 DOCS = ROOT / 'docs'
 # The name of a crate of ours.
 OURS = r'(?:ent|memo|lint|script|law|cli)_\w+'
 HEADLINE = 'Rattle.ent_line.specs.Headline'
+# The clauses that are read: that of the call which the program makes to serve, and that of the program.
+SERVING = (CRATES / 'cli_serve' / 'src' / 'running.rt', 'serve_from')
+PROGRAM = (CRATES / 'ent_program' / 'src' / 'acting.rt', 'run')
 EVALUATION = "The standard's evaluation"
-MOST = 600
+MOST = 640
 
 
 # ---- the map
@@ -156,6 +164,19 @@ def print_closure(known):
 
 # ---- the reading list
 
+# A row of the list: a module, and where not all of it is read, the words that are.
+ROW = r'^\| `(crates/[^`]*\.antt)`( of it (?:`[^`]*`(?:, )?)+)?'
+
+
+def lines_of_words(path, words):
+    """How many lines each of some definitions of a file has."""
+    for word in words:
+        found = [text for names, text in definitions_of(path) if word in names]
+        if not found:
+            sys.exit(f'docs/READING.md: {path.relative_to(ROOT)} has no {word}')
+        yield sum(1 for line in found[0].split('\n') if line.strip())
+
+
 def parts(page, mark):
     """What stands before a mark, up to its end, and from there on."""
     before, rest = page.split(f'<!-- {mark} -->\n')
@@ -175,7 +196,9 @@ def put_between(page, mark, text):
 def with_lines(page):
     """The page with the number of lines of each module in its tables."""
     def row(found):
-        return f'| `{found[1]}` | {lines(ROOT / found[1])} |'
+        words = re.findall(r'`([^`]*)`', found[2] or '')
+        count = lines(ROOT / found[1]) if not words else sum(lines_of_words(ROOT / found[1], words))
+        return f'| `{found[1]}`{found[2] or ""} | {count} |'
 
     def row_of_crate(found):
         names = [re.sub(r' \d+$', '', name.strip()) for name in found[2].split(',')]
@@ -183,7 +206,7 @@ def with_lines(page):
         told = ', '.join(f'{name} {count}' for name, count in zip(names, counts))
         return f'| `{found[1]}` | {sum(counts)} | {told} |'
 
-    page = re.sub(r'^\| `(crates/[^`]*\.antt)` \|[^|]*\|', row, page, flags=re.M)
+    page = re.sub(ROW + r' \|[^|]*\|', row, page, flags=re.M)
     return re.sub(rf'^\| `({OURS})` \|[^|]*\|([^|]*)\|', row_of_crate, page, flags=re.M)
 
 
@@ -239,27 +262,80 @@ def of_crates(text):
     return {f'Rattle.{crate}.specs.{name.split()[0]}' for crate, names in rows for name in names.split(',')}
 
 
-def untold(page, known):
-    """The modules on whose definitions the headline rests, and that are in no table."""
+def untold(page, followed):
+    """The modules on whose definitions the clauses of `serve_from` and of `run` rest, and that are in no table."""
     listed_paths = set(paths_in(page))
-    told = {name for name in known if known[name] in listed_paths} | of_crates(page)
-    return [f'{crate} {module}' for crate, module in map(split, sorted(Followed(known).modules_from(HEADLINE) - told))]
+    told = {name for name, path in followed.known.items() if path in listed_paths} | of_crates(page)
+    found, _ = followed.reached(followed.clause(*SERVING) | followed.clause(*PROGRAM))
+    return [f'{crate} {module}' for crate, module in map(split, sorted({name for name, _ in found} - told))]
+
+
+def is_listed(page, followed):
+    """Whether a definition is on the reading list."""
+    rows = [(ROOT / found[1], re.findall(r'`([^`]*)`', found[2] or '')) for found in
+            re.finditer(ROW, between(page, 'reading list'), re.M)]
+    names = {path: name for name, path in followed.known.items()}
+    whole = {names[path] for path, words in rows if not words}
+    parts_of = {followed.place(names[path], word) for path, words in rows for word in words}
+    return lambda place: place[0] in whole or place in parts_of
+
+
+def below(page):
+    """The modules of the tables between the reading list and the standard's evaluation, and behind it."""
+    before, after = page.split(f'\n## {EVALUATION}\n')
+    return of_crates(before) | of_crates(after.split('\n## ', 1)[1])
+
+
+def skipped(page, followed, found):
+    """Fails where the page doesn't name what stands in a module of the list and isn't reached."""
+    on_list = is_listed(page, followed)
+    apart = [followed.parts[name][number][0] for name in followed.parts for number in range(len(followed.parts[name]))
+             if on_list((name, number)) and (name, number) not in found]
+    named = set(re.findall(r'`([^`]*)`', between(page, 'skipped')))
+    for words in apart:
+        if not words & named:
+            sys.exit(f'docs/READING.md: what is to be skipped lacks {", ".join(sorted(words))}')
+    told = set().union(*apart)
+    if not named <= told:
+        sys.exit(f'docs/READING.md: {", ".join(sorted(named - told))} is reached, or isn\'t on the list')
+
+
+def check_closed(page, notation, followed):
+    """Says how many lines of the list are reached from the clause of `serve_from`, and how many types of the code have
+    which these name; fails where the list isn't closed: a word on it is defined on it, named in the notation, or told
+    in a table below it that isn't of the standard's evaluation."""
+    starts = followed.clause(*SERVING)
+    found, beyond = followed.reached(starts, is_listed(page, followed))
+    types = followed.types_of(found)
+    told = below(page)
+    left = sorted(f'{" ".join(split(place[0]))}.{min(tokens)}' for place, tokens in beyond.items()
+                  if place[0] not in told and not any(token.split('.')[-1] in notation for token in tokens))
+    if left:
+        sys.exit(f'docs/READING.md: the reading list isn\'t closed: it, the notation and the tables below lack '
+                 + ', '.join(left))
+    skipped(page, followed, found)
+    count = sum(map(followed.count, found))
+    print(f'closed: {count} lines of it are reached from serve_from, and {len(types)} types of the code with '
+          f'{sum(type_lines(*name) for name in types)} lines')
+    if count > MOST:
+        sys.exit(f'docs/READING.md: of the reading list {count} lines are reached, more than {MOST}')
 
 
 def check_reading(page, known):
     """Says how long the reading list is; what is wrong with it, if anything."""
     paths = paths_in(between(page, 'reading list'))
-    count = sum(lines(path) for path in paths)
+    rows = re.findall(ROW + r' \| (\d+) \|', between(page, 'reading list'), re.M)
+    count = sum(int(row[2]) for row in rows)
     print(f'docs/READING.md: {len(paths)} modules on the reading list, {count} lines')
     notation = set(re.findall(r'[A-Za-z_]\w*|[^\s\w`]+', ' '.join(re.findall(r'`([^`]*)`', between(page, 'notation')))))
     absent = missing(known, paths_in(page), notation)
-    if count > MOST:
-        sys.exit(f'docs/READING.md: the reading list has {count} lines, more than {MOST:,}')
     if absent:
         sys.exit('docs/READING.md: neither a list nor the notation has ' + ', '.join(absent))
-    left = untold(page, known)
+    followed = Followed(known)
+    left = untold(page, followed)
     if f'\n## {EVALUATION}\n' not in page or left:
-        sys.exit(f'docs/READING.md: no list, and no table under "{EVALUATION}", has ' + ', '.join(left))
+        sys.exit(f'docs/READING.md: no list, and no table, has ' + ', '.join(left))
+    check_closed(page, notation, followed)
 
 
 def main():

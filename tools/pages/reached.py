@@ -6,6 +6,7 @@ import re
 ROOT = pathlib.Path(__file__).resolve().parents[2]
 CRATES = ROOT / 'crates'
 USE = re.compile(r'^\s*(pub )?use ([^\s{}]+?)(?:\.\{([^}]*)\})?(?: as (\w+))?$', re.M)
+IMPORT = re.compile(r'^\s*ghost use ([^\s{};]+?)(?:\.\{([^}]*)\})?(?: as (\w+))?;$', re.M)
 TOP = re.compile(r'^(?:(?:pub|abbrev|unfoldable) )*(?:(?:record|data) (\w+)|([\w◌>=]+) :)', re.M)
 MEMBER = re.compile(r'^  (?:pub )?(\w+) :', re.M)
 TOKEN = re.compile(r'[A-Za-z_]\w*(?:\.\w+)*|[^\s\w(){},:=.;\[\]]+')
@@ -78,6 +79,16 @@ def by_crate(names):
     return found
 
 
+def type_lines(crate, name):
+    """How many lines a type of the code has, without comments and attributes."""
+    for path in sorted((CRATES / crate / 'src').rglob('*.rt')):
+        of_type = rf'^(?:pub(?:\([a-z]+\))? )?(?:struct|enum) {name}\b[^;{{]*(?:;|\{{\n.*?^\}})'
+        found = re.search(of_type, path.read_text(), re.M | re.S)
+        if found:
+            return sum(1 for line in found[0].split('\n') if line.strip() and not re.match(r'\s*(//|#\[)', line))
+    return 0
+
+
 def is_apart(name):
     """Whether a module has words of private contracts and of proofs alone."""
     return '.specs.proofs_only.' in name
@@ -123,6 +134,7 @@ class Followed:
     """Which definitions those of a module rest on, one after the other."""
 
     def __init__(self, known):
+        self.known = known
         self.parts = {name: definitions_of(path) for name, path in known.items()}
         self.scopes = {name: scope(path) for name, path in known.items()}
 
@@ -145,13 +157,62 @@ class Followed:
             return self.place(modules_of[first], rest[0])
         return self.place(*words_of.get(first, (module, first)))
 
-    def modules_from(self, module):
-        """The modules of all definitions that those of a module rest on."""
-        reached, left = set(), [(module, number) for number in range(len(self.parts[module]))]
+    def named_by(self, at):
+        """Where the definitions stand that one of a module names, each with the token by which it does."""
+        tokens = sorted(set(TOKEN.findall(self.parts[at[0]][at[1]][1])))
+        return [(place, token) for token in tokens if (place := self.named(at[0], token))]
+
+    def reached(self, starts, goes_on=lambda place: True):
+        """The definitions on which some rest, as far as it goes on; and the others that these name, each with the
+        tokens by which they do."""
+        found, beyond, left = set(), {}, list(starts)
         while left:
             at = left.pop()
-            if at not in reached:
-                reached.add(at)
-                tokens = set(TOKEN.findall(self.parts[at[0]][at[1]][1]))
-                left += filter(None, (self.named(at[0], token) for token in tokens))
-        return {name for name, _ in reached}
+            if at in found:
+                continue
+            found.add(at)
+            for place, token in self.named_by(at):
+                if goes_on(place):
+                    left.append(place)
+                else:
+                    beyond.setdefault(place, set()).add(token)
+        return found, beyond
+
+    def clause(self, path, name):
+        """Where the definitions stand that the contract of a public function names."""
+        text = path.read_text()
+        words_of, modules_of = {}, {}
+        for module, words, alias in IMPORT.findall(text):
+            if alias:
+                modules_of[alias] = module
+            for word in filter(None, (word.strip() for word in words.split(','))):
+                words_of[word.strip('◌')] = module
+        contract = text.split(f'pub fn {name}')[1].split('\n{\n')[0]
+        places = set()
+        for token in TOKEN.findall(contract):
+            first, *rest = token.split('.')
+            if first in modules_of and rest:
+                places.add(self.place(modules_of[first], rest[0]))
+            elif first in words_of:
+                places.add(self.place(words_of[first], first))
+        return places - {None}
+
+    def count(self, at):
+        """How many lines a definition has."""
+        return sum(1 for line in self.parts[at[0]][at[1]][1].split('\n') if line.strip())
+
+    def types_of(self, places):
+        """The types of the code that some definitions name: of each its crate and its name."""
+        found = set()
+        for module, number in places:
+            text = self.parts[module][number][1]
+            for other, words, _ in imports(self.known[module]):
+                crate, name = split(other)
+                if not name.startswith('declared.') or not (CRATES / crate).is_dir():
+                    continue
+                parts_of = name.split('.')
+                if parts_of[-1] == 'TheVariants':
+                    parts_of.pop()
+                if any(re.search(rf'\b{re.escape(word.split(" as ")[-1])}\b', text) for word in words) or not words:
+                    found.add((crate, parts_of[-1]))
+        return found
