@@ -30,6 +30,32 @@ window.fetch = async (address, options) => {
 };
 '''
 
+# A reviewer's list of 5,000 rows.
+MADE_LIST = '''
+const old = window.fetch, name = (n) => `u${100000 + n}`;
+const group = (n) => ({ person: name(n), why: [{ path: [['Policy', 'grants', '1.0']], rule: `rule-${n % 7}` }],
+  state: 'open', reviewer: 'ann', digest: String(n), items: [0, 1, 2].map((k) => ({ item: 3 * n + k, action: 'read',
+    resource: `r${k}`, decision: 'Permit' })) });
+const part = (from, count) => Array.from({ length: Math.min(count, 5000 - from) }, (_, i) => group(from + i));
+const made = (path, query) => {
+  const item = /items[/](\\d+)$/.exec(path);
+  if (item) {
+    return { campaign: 'x', group: group(Math.floor(item[1] / 3)), serial: 9,
+      explain: { answer: { why: [] }, causes: [], facts: [] } };
+  }
+  const from = Number(query.get('from') ?? 0), count = Number(query.get('count') ?? 100);
+  return { whoami: { name: 'ann', roles: ['review'], commands: ['campaign.show', 'campaign.items', 'campaign.keep'] },
+    'campaigns/x': { campaign: { name: 'x', scope: {}, reviewers: [{ name: 'ann' }] }, serial: 1, up_to: 9,
+      items: 15000, states: { open: 15000 }, reviewers: { ann: { open: 15000, fell: 0 } }, fell: [], more: false },
+    'campaigns/x/items': { groups: part(from, count), more: from + count < 5000, serial: 9 },
+    'campaigns/x/keep': { serial: 10 } }[path];
+};
+window.fetch = async (address, options) => {
+  const url = new URL(address), told = made(url.pathname.slice(1), url.searchParams);
+  return told ? new Response(JSON.stringify(told), { headers: { 'Review-Serial': '9' } }) : old(address, options);
+};
+'''
+
 
 def spent(trial):
     """How long the page's thread worked so far, in milliseconds, and how much memory its objects take, in MB."""
@@ -96,4 +122,32 @@ def try_large(trial):
     browser.execute_cdp_cmd('Performance.disable', {})
 
 
-TRIALS = [try_large]
+def try_large_list(trial):
+    """What a list of 5,000 rows costs the page: until it is drawn, and for an act."""
+    browser = trial.browser
+    key = browser.execute_cdp_cmd('Page.addScriptToEvaluateOnNewDocument', {'source': MADE_LIST})['identifier']
+    browser.execute_cdp_cmd('Performance.enable', {'timeDomain': 'threadTicks'})
+    trial.open('#signing?campaign=x')
+    for _ in until('the rows'):
+        if browser.execute_script('return document.querySelectorAll(".item").length') == 5000:
+            break
+    trial.await_text('u100000 by rule-0', '#panel')
+    begun, _ = spent(trial)
+    browser.execute_async_script('''const [done] = arguments, box = document.querySelector('.items'); let left = 20;
+        const step = () => { if (!document.querySelector('#panel .foot')) { setTimeout(step, 5); return; }
+          if (left === 0) { done(); return; }
+          left -= 1;
+          box.dispatchEvent(new KeyboardEvent('keydown', { key: 'y', bubbles: true })); setTimeout(step, 5); };
+        step();''')
+    ended, memory = spent(trial)
+    print(f'a list of 5,000 rows: {begun:.0f} ms of the page\'s thread until it is drawn, '
+          f'{(ended - begun) / 20:.1f} ms an act, {memory:.1f} MB of objects')
+    kept = browser.execute_script('return document.querySelectorAll(".item.kept").length')
+    trial.see('rows that are kept', kept, 20)
+    trial.see(f'until it is drawn less than two seconds of the thread ({begun:.0f} ms)', begun < 2000, True)
+    trial.see(f'an act in at most 50 ms ({(ended - begun) / 20:.1f} ms)', (ended - begun) / 20 <= 50, True)
+    browser.execute_cdp_cmd('Page.removeScriptToEvaluateOnNewDocument', {'identifier': key})
+    browser.execute_cdp_cmd('Performance.disable', {})
+
+
+TRIALS = [try_large, try_large_list]

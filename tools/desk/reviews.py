@@ -238,6 +238,15 @@ def evidence(trial):
     said = subprocess.run([trial.front.words[0], 'verify', '--evidence', str(folder / 'evidence'), '--key',
                            str(folder / 'head.pub')], capture_output=True, check=False).stdout.decode()
     trial.see('what the front says of the evidence', said.startswith('the campaign 2026-q4 is as '), True)
+    trial.browser.execute_script('window.print = () => { window.printed = true; }')
+    trial.click('Print')
+    for _ in until('it is laid out'):
+        if trial.browser.execute_script('return window.printed'):
+            break
+    laid = trial.browser.execute_script('return document.getElementById("paper").textContent')
+    for words in ('Evidence of 2026-q4', 'by office', '13 of 81 cells are signed', 'hana (Hana <Sato>)',
+                  'a trainee prescribes nothing', '/campaigns/2026-q4/items'):
+        trial.see(f'the paper says {words}', words in laid, True)
 
 
 for each in (try_signing, try_fast_signing, try_campaign):
