@@ -200,10 +200,10 @@ def try_campaign(trial):
     trial.see('the campaign is listed', '2026-q4' in told and 'Sign' in told, True)
     trial.picture('campaigns')
     trial.click('2026-q4')
-    told = trial.await_text('What is to be revoked, and still there')
+    trial.await_text('What is to be revoked, and still there')
+    told = trial.await_text('hana Hana <Sato> prescribe')
     for words in ('13 of 81 cells are signed (16 %): 11 kept, 2 to revoke, 0 revoked. 6 fell, 62 are to do.',
-                  'values of dina set', 'hana Hana <Sato> prescribe', 'certified-doctors',
-                  '“a trainee prescribes nothing”', 'bruno', 'record-*, scan-*'):
+                  'values of dina set', 'certified-doctors', '“a trainee prescribes nothing”', 'bruno', 'record-*, scan-*'):
         trial.see(f'the board says {words}', words in told, True)
     trial.click('What would take it away?')
     told = trial.await_text('Without the value, so much of this task would be gone')
