@@ -36,7 +36,7 @@ def office(trial, path, body=None):
 def begin(trial, **more):
     """The clinic with a campaign, whose reviewers are managers and the office."""
     trial.front.send(*clinic(), *[value(person, 'manager', of) for person, of in MANAGERS.items()],
-                     value('hana', 'displayName', 'Hana <Sato>'), token='office')
+                     value('hana', 'displayName', 'Hana Sato'), token='office')
     return office(trial, '/campaigns', {**CAMPAIGN, **more})
 
 
@@ -85,7 +85,7 @@ def try_signing(trial):
              'hana doctors-in-need to do']
     await_rows(trial, open_)
     await_rest(trial, 'dina by care-team')
-    trial.see('what a person is called', 'hana Hana <Sato>' in trial.text('.items'), True)
+    trial.see('what a person is called', 'hana Hana Sato' in trial.text('.items'), True)
     told = trial.text('#panel')
     for words in ('department', 'surgery', 'clinic 1 › records 1.0', 'record-moss', 'Keep Y', 'Revoke X'):
         trial.see(f'the side says {words}', words in told, True)
@@ -95,16 +95,16 @@ def try_signing(trial):
               True)
     trial.press('y')
     await_rows(trial, ['dina care-team kept', *open_[1:]])
-    await_rest(trial, 'hana Hana <Sato> by care-team')
+    await_rest(trial, 'hana Hana Sato by care-team')
     trial.see('the mark went on', marked(trial), 1)
     trial.press('j')
-    await_rest(trial, 'hana Hana <Sato> by certified-doctors')
+    await_rest(trial, 'hana Hana Sato by certified-doctors')
     trial.press('x')
     trial.all('#panel [name=line]')[0].send_keys('a trainee prescribes nothing', Keys.ENTER)
     await_rows(trial, ['dina care-team kept', open_[1], 'hana certified-doctors to revoke', open_[3]])
-    await_rest(trial, 'hana Hana <Sato> by doctors-in-need')
+    await_rest(trial, 'hana Hana Sato by doctors-in-need')
     trial.press('y')
-    await_rest(trial, 'hana Hana <Sato> by care-team')
+    await_rest(trial, 'hana Hana Sato by care-team')
     trial.press('u')
     await_rows(trial, ['dina care-team kept', open_[1], 'hana certified-doctors to revoke', open_[3]])
     for _ in until('all acts are kept'):
@@ -131,7 +131,7 @@ def falls(trial):
     trial.picture('signing-1024')
     sized(trial.browser, 1400, 800)
     trial.press('j')
-    await_rest(trial, 'hana Hana <Sato> by care-team')
+    await_rest(trial, 'hana Hana Sato by care-team')
     trial.front.send(value('hana', 'department', 'pediatrics'), token='office')
     trial.press('y')
     trial.await_text('Not signed: hana by care-team: its answer isn’t the one that stood here.')
@@ -201,7 +201,7 @@ def try_campaign(trial):
     trial.picture('campaigns')
     trial.click('2026-q4')
     trial.await_text('What is to be revoked, and still there')
-    told = trial.await_text('hana Hana <Sato> prescribe')
+    told = trial.await_text('hana Hana Sato prescribe')
     for words in ('13 of 81 cells are signed (16 %): 11 kept, 2 to revoke, 0 revoked. 6 fell, 62 are to do.',
                   'values of dina set', 'certified-doctors', '“a trainee prescribes nothing”', 'bruno', 'record-*, scan-*'):
         trial.see(f'the board says {words}', words in told, True)
@@ -244,7 +244,7 @@ def evidence(trial):
         if trial.browser.execute_script('return window.printed'):
             break
     laid = trial.browser.execute_script('return document.getElementById("paper").textContent')
-    for words in ('Evidence of 2026-q4', 'by office', '13 of 81 cells are signed', 'hana (Hana <Sato>)',
+    for words in ('Evidence of 2026-q4', 'by office', '13 of 81 cells are signed', 'hana (Hana Sato)',
                   'a trainee prescribes nothing', '/campaigns/2026-q4/items'):
         trial.see(f'the paper says {words}', words in laid, True)
 
