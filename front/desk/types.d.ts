@@ -81,8 +81,9 @@ interface Item {
 // Items of one person that the same rules give, in one state.
 interface ItemGroup { person: string; why: Entry[]; state: string; reviewer: string; digest: string; items: Item[] }
 
-// A row of a reviewer's list: the state that is drawn, how many of its acts are on their way, and why one wasn't taken.
-interface ListRow { group: ItemGroup; state: string; waits: number; fault: string }
+// A row of a reviewer's list: whose and by which rules it is, the state that is drawn, how many of its acts are on
+// their way, and why one wasn't taken.
+interface ListRow { key: string; group: ItemGroup; state: string; waits: number; fault: string }
 
 interface ScopePart { names?: string[]; where?: { attribute: string; values: string[] }[] }
 

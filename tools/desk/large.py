@@ -34,8 +34,9 @@ window.fetch = async (address, options) => {
 MADE_LIST = '''
 const old = window.fetch, name = (n) => `u${100000 + n}`;
 const group = (n) => ({ person: name(n), why: [{ path: [['Policy', 'grants', '1.0']], rule: `rule-${n % 7}` }],
-  state: 'open', reviewer: 'ann', digest: String(n), items: [0, 1, 2].map((k) => ({ item: 3 * n + k, action: 'read',
-    resource: `r${k}`, decision: 'Permit' })) });
+  state: kept.has(3 * n) ? 'kept' : 'open', reviewer: 'ann', digest: String(n), items: [0, 1, 2].map((k) =>
+    ({ item: 3 * n + k, action: 'read', resource: `r${k}`, decision: 'Permit' })) });
+const kept = new Set();
 const part = (from, count) => Array.from({ length: Math.min(count, 5000 - from) }, (_, i) => group(from + i));
 const made = (path, query) => {
   const item = /items[/](\\d+)$/.exec(path);
@@ -51,7 +52,9 @@ const made = (path, query) => {
     'campaigns/x/keep': { serial: 10 } }[path];
 };
 window.fetch = async (address, options) => {
-  const url = new URL(address), told = made(url.pathname.slice(1), url.searchParams);
+  const url = new URL(address);
+  if (options?.body) kept.add(JSON.parse(options.body).items[0]);
+  const told = made(url.pathname.slice(1), url.searchParams);
   return told ? new Response(JSON.stringify(told), { headers: { 'Review-Serial': '9' } }) : old(address, options);
 };
 '''

@@ -1,16 +1,20 @@
 // A reviewer's acts, one behind the other. An act is of the row that had the mark when the key came; it is drawn at
 // once, and sent behind those before it, so that keys faster than the network sign each row once.
 import { act } from './reviewing.js';
+import { desk } from './state.js';
 import { Problem } from './ask.js';
 
 /** @typedef {'keep' | 'revoke' | 'pass'} Kind */
 /** @typedef {{campaign: string, row: ListRow, items: number[]}} Done */
 
 /**
- * Who draws rows, and reads them anew once nothing is on its way.
- * @type {{drawn: (row: ListRow) => void, failed: (row: ListRow, words: string) => void, idle: () => void}}
+ * Who draws rows.
+ * @type {{drawn: (row: ListRow) => void, failed: (row: ListRow, words: string) => void}}
  */
-export const hooks = { drawn() {}, failed() {}, idle() {} };
+export const hooks = { drawn() {}, failed() {} };
+
+/** The serials of the acts that were made here, of which nothing new is heard. */
+export const own = new Set();
 
 /** @type {Promise<void>} */
 let queue = Promise.resolve();
@@ -36,13 +40,18 @@ function faultWords(fault) {
 
 /**
  * Sends something of a row behind what is on its way.
- * @param {ListRow} row @param {() => Promise<any>} send @param {() => void} back
+ * @param {ListRow} row @param {() => Promise<{serial: number}>} send @param {(serial: number) => void} done
+ * @param {() => void} back
  */
-function behind(row, send, back) {
+function behind(row, send, done, back) {
   waiting += 1;
   row.waits += 1;
   row.fault = '';
-  queue = queue.then(send).then(() => { row.waits -= 1; }, (fault) => {
+  queue = queue.then(send).then(({ serial }) => {
+    row.waits -= 1;
+    own.add(serial);
+    done(serial);
+  }, (fault) => {
     row.waits -= 1;
     row.fault = faultWords(fault);
     back();
@@ -50,8 +59,21 @@ function behind(row, send, back) {
   }).then(() => {
     waiting -= 1;
     hooks.drawn(row);
-    if (waiting === 0) hooks.idle();
   });
+}
+
+/**
+ * Has a group be as an act left it: signed so, or by nobody.
+ * @param {ItemGroup} group @param {string} state @param {SignOff} [signed]
+ */
+function leave(group, state, signed) {
+  group.state = state;
+  for (const item of group.items) {
+    delete item.by;
+    delete item.back;
+    delete item.signed;
+    if (signed) item.signed = signed;
+  }
 }
 
 const STATE = { keep: 'kept', revoke: 'revoke', pass: 'passed' };
@@ -65,7 +87,10 @@ export function sign(campaign, row, kind, serial, more = {}) {
   const body = kind === 'pass' ? { items, ...more } : { items, digest: row.group.digest, serial, ...more };
   row.state = STATE[kind];
   if (kind !== 'pass') kept.push(done);
-  behind(row, () => act(campaign, kind, body), () => {
+  behind(row, () => act(campaign, kind, body), (told) => {
+    if (kind !== 'pass') leave(row.group, STATE[kind], { as: kind, by: desk.who.name, time: new Date().toISOString(),
+      serial: told, digest: row.group.digest, ...more });
+  }, () => {
     row.state = before;
     kept = kept.filter((each) => each !== done);
   });
@@ -83,6 +108,6 @@ export function undo(campaign) {
   if (!done || done.campaign !== campaign) return null;
   const { row, items } = done, before = row.state;
   row.state = 'open';
-  behind(row, () => act(campaign, 'undo', { items }), () => { row.state = before; });
+  behind(row, () => act(campaign, 'undo', { items }), () => leave(row.group, 'open'), () => { row.state = before; });
   return row;
 }

@@ -7,7 +7,7 @@ import { saveFile } from './paper.js';
 import { listen } from './live.js';
 import { act, campaign as read, doneBy, editLink, editOf, farWords, groupsOf, signedOf, tasksOf } from './reviewing.js';
 import { tasksTable } from './tasks.js';
-import { sheetOf } from './signing.js';
+import { rowOf, sheetOf } from './signing.js';
 
 export const title = 'Campaign', needs = ['campaign.show'];
 
@@ -165,7 +165,6 @@ export function left() {
 /** The evidence on paper. @returns {Promise<Sheet>} */
 export async function sheet() {
   const { groups, more } = await groupsOf(shown.campaign.name, {});
-  const made = sheetOf(`Evidence of ${shown.campaign.name}`, [farWords(shown)], groups.map((group) =>
-    ({ group, state: group.state, waits: 0, fault: '' })));
+  const made = sheetOf(`Evidence of ${shown.campaign.name}`, [farWords(shown)], groups.map(rowOf));
   return more ? { ...made, notes: [`The first ${number(groups.length)} rows are here.`] } : made;
 }

@@ -4,7 +4,7 @@ import { desk, may } from './state.js';
 import { listen } from './live.js';
 import { address, el, link, moment, number, plural, say, shown } from './words.js';
 import { bar, menu, printing } from './bar.js';
-import { hooks, isBusy, sign, undo } from './acts.js';
+import { hooks, isBusy, own, sign, undo } from './acts.js';
 import { close } from './panel.js';
 import { campaign as told_, groupsOf, isKnown } from './reviewing.js';
 import { SignList, actionsOf, isToDo, resourcesOf, rulesIn, stateWords } from './signlist.js';
@@ -17,7 +17,9 @@ export const title = 'Sign-off', needs = ['campaign.items'];
 const SHOWN = /** @type {[string, string][]} */ ([['', 'everything'], ['open fell', 'to do'], ['kept', 'kept'],
   ['revoke', 'to revoke'], ['fell', 'fallen']]);
 
-let name = '', reviewer = '', only = '', serial = 0, late = 0, isMore = false;
+let name = '', reviewer = '', only = '', serial = 0, late = 0, isMore = false, isDue = false, took = 0;
+/** Serials of which something was heard since the list was read. */
+const heard = new Set();
 /** @type {Campaign} */
 let campaign;
 /** @type {SignList} */
@@ -37,10 +39,8 @@ const rankOf = (row) => (row.state === 'fell' ? 0 : row.state === 'open' ? (isFr
   : { revoke: 3, kept: 4, revoked: 5 }[row.state] ?? 6);
 
 /** @param {ItemGroup} group @returns {ListRow} */
-const rowOf = (group) => ({ group, state: group.state, waits: 0, fault: '' });
-
-/** @param {ItemGroup} group */
-const keyOf = ({ person, why, reviewer: of }) => JSON.stringify([person, why, of]);
+export const rowOf = (group) => ({ key: JSON.stringify([group.person, group.why, group.reviewer]), group,
+  state: group.state, waits: 0, fault: '' });
 
 /** Who reviews: all that are known of this campaign. */
 function reviewers() {
@@ -141,41 +141,71 @@ async function read() {
   return all.groups.map(rowOf);
 }
 
-/** Reads all anew, and leaves the mark and the order as they are. */
+/**
+ * Reads all anew where others did something or an act wasn't taken, and leaves the mark and the order as they are.
+ */
 async function again() {
-  if (isBusy()) return; // it is read once nothing is on its way
+  if (isBusy()) { // it is read once nothing is on its way
+    later();
+    return;
+  }
+  const isNews = isDue || [...heard].some((each) => !own.has(each)), old = list, started = performance.now();
+  isDue = false;
+  heard.clear();
+  if (!isNews) return;
   forget();
-  const old = list, isHere = () => list === old && !isBusy();
   const rows = await read().catch(() => null);
-  if (!rows || !isHere()) return;
-  const places = new Map(old.rows.map((row, i) => [keyOf(row.group), i]));
-  const place = (/** @type {ListRow} */ row) => places.get(keyOf(row.group)) ?? old.rows.length;
-  rows.sort((a, b) => place(a) - place(b) || rankOf(a) - rankOf(b));
-  const { row } = old, faults = new Map(old.rows.filter((each) => each.fault).map((each) =>
-    [keyOf(each.group), each.fault]));
-  for (const each of rows) if (isToDo(each)) each.fault = faults.get(keyOf(each.group)) ?? '';
-  const same = row ? rows.findIndex((each) => keyOf(each.group) === keyOf(row.group)) : 0;
-  const isSame = same >= 0 && row && rows[same].group.digest === row.group.digest && rows[same].state === row.state
-    && rows[same].fault === row.fault && rows[same].group.state === row.group.state;
-  old.fill(rows, same >= 0 ? same : old.at);
-  drawHead();
-  if (isSame && side.row === row) side.row = old.row;
-  else if (old.row) moved(old.row);
+  if (!rows || list !== old) return;
+  if (isBusy()) {
+    isDue = true;
+    later();
+    return;
+  }
+  merge(rows);
+  took = performance.now() - started;
 }
 
-/** Something happened: a moment later the list is read anew. */
+/**
+ * Shows rows as they are now, those of before in their places.
+ * @param {ListRow[]} rows
+ */
+function merge(rows) {
+  const places = new Map(list.rows.map((row, i) => [row.key, i])), { row } = list;
+  const place = (/** @type {ListRow} */ each) => places.get(each.key) ?? list.rows.length;
+  rows.sort((a, b) => place(a) - place(b) || rankOf(a) - rankOf(b));
+  const faults = new Map(list.rows.filter((each) => each.fault).map((each) => [each.key, each.fault]));
+  for (const each of rows) if (isToDo(each)) each.fault = faults.get(each.key) ?? '';
+  const same = row ? rows.findIndex((each) => each.key === row.key) : 0;
+  const isSame = same >= 0 && row && rows[same].group.digest === row.group.digest && rows[same].state === row.state
+    && rows[same].fault === row.fault;
+  list.fill(rows, same >= 0 ? same : list.at);
+  drawHead();
+  if (isSame && side.row === row) side.row = list.row;
+  else if (list.row) moved(list.row);
+}
+
+/** Something happened: a moment later the list is read anew, the later the longer that takes. */
 function later() {
   clearTimeout(late);
-  late = window.setTimeout(again, 300);
+  late = window.setTimeout(again, 300 + 3 * took);
 }
 
-hooks.drawn = (row) => list?.drawRow(row);
+/** All is read anew, whatever is known here. */
+function anew() {
+  isDue = true;
+  later();
+}
+
+hooks.drawn = (row) => {
+  list?.drawRow(row);
+  if (row === list?.row && !row.waits && !row.fault) moved(row); // its history is another one
+};
 hooks.failed = (row, words) => {
   note.append(el('p.fault', { role: 'alert' }, `Not signed: ${shown(row.group.person)} by ${shown(
     rulesIn(row.group))}: ${shown(words)}.`));
   drawHead();
+  anew();
 };
-hooks.idle = later;
 
 /** The lines above the list. */
 function top() {
@@ -217,17 +247,25 @@ export async function show(place, query, isOpen) {
 
 /** @param {() => boolean} isOpen */
 const hearing = (isOpen) => listen({
-  event({ event, id, data }) {
-    const isMine = /^(kept|revoke|passed|undone)$/.test(event) && JSON.parse(data).by === desk.who.name;
-    const isKnown_ = event === 'from' && Number(id) <= campaign.up_to;
-    if (isOpen() && !isKnown_ && !isMine) later();
+  event({ id }) {
+    if (!isOpen() || Number(id) <= campaign.up_to) return;
+    heard.add(Number(id));
+    later();
   },
   state() {},
 }, `campaigns/${name}/events`, campaign.up_to);
 
-/** An edit changed something: answers that fell stand first when the list is opened again. */
-export const told = later;
-export const renew = later;
+/**
+ * An edit changed something, or somebody signed: answers that fell stand first when the list is opened again.
+ * @param {Change[]} changes @param {number} at
+ */
+export function told(changes, at) {
+  heard.add(at);
+  if (changes.length) anew();
+  else later();
+}
+
+export const renew = anew;
 
 export function left() {
   stop();
@@ -252,7 +290,8 @@ export const sheetOf = (title_, filter, rows) => ({
   rows: rows.map(({ group, state }) => {
     const [{ signed, by }] = group.items;
     const rules = group.why.map((entry) => `${pathWords(entry)} › ${entry.rule ?? 'by default'}`);
-    return [whoText(group.person), rules.join('; '), actionsOf(group).join(', '), resourcesOf(group).join(', '), group.items.length, group.reviewer,
+    return [whoText(group.person), rules.join('; '), actionsOf(group).join(', '), resourcesOf(group).join(', '),
+      group.items.length, group.reviewer,
       stateWords(state), signed?.by ?? '', signed ? moment(signed.time) : '', signed?.serial ?? '', signed?.why ?? '',
       by ? `serial ${by.serial}, ${by.by}, ${moment(by.time)}` : '', group.digest];
   }),

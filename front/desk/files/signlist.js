@@ -33,6 +33,9 @@ export const stateWords = (state) => WORDS[state] ?? state;
 const some = (names) => names.slice(0, 3).map(shown).join(', ')
   + (names.length > 3 ? ` and ${number(names.length - 3)} more` : '');
 
+/** How many rows are made at once: the others follow while nothing else happens. */
+const AT_ONCE = 200;
+
 /** A list of rows. Who is told that the mark moved shows the row at the side. */
 export class SignList {
   /** @param {(row: ListRow) => void} moved @param {(event: KeyboardEvent) => void} key */
@@ -41,15 +44,55 @@ export class SignList {
     /** @type {ListRow[]} */
     this.rows = [];
     this.at = 0;
+    /** @type {string[]} what each row that is made shows */
+    this.drawn = [];
+    this.late = 0;
     this.box = el('div.items', { role: 'listbox', tabindex: 0, 'aria-label': 'What is to be signed', onkeydown: key });
   }
 
-  /** @param {ListRow[]} rows @param {number} at */
+  /**
+   * Shows other rows. Those that are as before stay.
+   * @param {ListRow[]} rows @param {number} at
+   */
   fill(rows, at) {
     this.rows = rows;
     this.at = Math.max(0, Math.min(rows.length - 1, at));
-    this.box.replaceChildren(...rows.map((_, i) => this.made(i)));
+    while (this.drawn.length > rows.length) {
+      this.drawn.pop();
+      this.box.lastElementChild.remove();
+    }
+    for (let i = 0; i < this.drawn.length; i += 1) this.draw(i);
+    this.grow(Math.max(AT_ONCE, this.at + 1));
     this.mark();
+  }
+
+  /**
+   * Makes rows up to a place, and those behind them later.
+   * @param {number} until
+   */
+  grow(until) {
+    clearTimeout(this.late);
+    const from = this.drawn.length, last = Math.min(until, this.rows.length);
+    for (let i = from; i < last; i += 1) {
+      this.drawn.push(this.shows(i));
+      this.box.append(this.made(i));
+    }
+    if (last < this.rows.length) this.late = window.setTimeout(() => this.grow(this.drawn.length + AT_ONCE));
+  }
+
+  /**
+   * Whether a row is the first of its rules.
+   * @param {number} i
+   */
+  isFirst(i) { return i === 0 || rulesIn(this.rows[i - 1].group) !== rulesIn(this.rows[i].group); }
+
+  /**
+   * All that is to be seen of a row, as a text.
+   * @param {number} i
+   */
+  shows(i) {
+    const { key, group, state, waits, fault } = this.rows[i];
+    return JSON.stringify([key, group.digest, state, waits > 0, fault, this.isFirst(i), i === this.at]);
   }
 
   /** The row that has the mark. */
@@ -57,9 +100,8 @@ export class SignList {
 
   /** @param {number} i */
   made(i) {
-    const row = this.rows[i], { group, state } = row, before = this.rows[i - 1];
-    const isFirst = !before || rulesIn(before.group) !== rulesIn(group);
-    return el(`div.item.${state}${isFirst ? '.first' : ''}${row.waits ? '.waits' : ''}`, { role: 'option',
+    const row = this.rows[i], { group, state } = row;
+    return el(`div.item.${state}${this.isFirst(i) ? '.first' : ''}${row.waits ? '.waits' : ''}`, { role: 'option',
       id: `item${i}`, 'aria-selected': String(i === this.at), onclick: () => this.go(i) },
     el('span.sign', { 'aria-hidden': 'true' }, SIGNS[state]), el('span.who', {}, who(group.person)),
     el('span.rule', {}, name(rulesIn(group))), el('span.acts', {}, some(actionsOf(group))),
@@ -68,7 +110,11 @@ export class SignList {
   }
 
   /** @param {number} i */
-  draw(i) { this.box.children[i]?.replaceWith(this.made(i)); }
+  draw(i) {
+    if (!(i in this.drawn) || this.drawn[i] === this.shows(i)) return;
+    this.drawn[i] = this.shows(i);
+    this.box.children[i].replaceWith(this.made(i));
+  }
 
   /** @param {ListRow} row */
   drawRow(row) { this.draw(this.rows.indexOf(row)); }
@@ -83,6 +129,7 @@ export class SignList {
     if (!this.rows.length) return;
     const old = this.at;
     this.at = Math.max(0, Math.min(this.rows.length - 1, i));
+    this.grow(Math.max(this.drawn.length, this.at + 1));
     this.draw(old);
     this.draw(this.at);
     this.mark();

@@ -5,7 +5,7 @@ import { gathered } from './made.js';
 import { open } from './panel.js';
 import { el, few, link, name, number, plural } from './words.js';
 import { doneBy, editLink, editOf, isKnown, itemOf, lastWords, ownNames } from './reviewing.js';
-import { actionsOf, isToDo, rulesIn } from './signlist.js';
+import { actionsOf, rulesIn } from './signlist.js';
 import { canUndo } from './acts.js';
 import { who } from './called.js';
 
@@ -114,7 +114,7 @@ function buttons({ group, state }, acts, isEnded) {
   const isGone = state === 'gone' || state === 'revoked' || state === 'passed';
   return el('p.acts', {}, isGone || state === 'kept' ? null : button('Keep', 'Y', acts.keep),
     isGone || state === 'revoke' ? null : button('Revoke', 'X', acts.revoke),
-    isToDo({ group, state, waits: 0, fault: '' }) ? button('Not mine', 'N', acts.pass) : null,
+    state === 'open' || state === 'fell' ? button('Not mine', 'N', acts.pass) : null,
     canUndo() ? button('Undo', 'U', acts.undo) : null);
 }
 
