@@ -137,6 +137,7 @@ func changeEvidence(t *testing.T, content, name string, words ...string) {
 		"a sign-off is dropped":       with(item, `,"signed":\{[^}]*\}`, ``),
 		"an act's cells":              with(at(`{"act"`, `"hana"`), `"hana"`, `"ada"`),
 		"an act's cells and items":    beside(`"hana"`, `"hanna"`),
+		"cells that tell no names":    beside(`"dina"`, `"dinah"`),
 		"an act is dropped":           without(at(`{"act"`, ``)),
 		"items are exchanged":         with(item, `"item":(\d+),`, `"item":1$1,`),
 		"the head is another's":       with(at(`{"head"`, ``), `"chain":"..`, `"chain":"00`),

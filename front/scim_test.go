@@ -187,6 +187,10 @@ func TestScim(t *testing.T) {
 	listed("ann", "chief")
 	rows("ann", "cost=[12] department=[surgery] direct=[carers] group=[carers staff] hired=[2020-02-01] mail=[ann@work] "+
 		"manager=[chief] may=[x-ray] role=[lead nurse]")
+	patch("/Groups/"+inner, `{"op":"remove","path":"members"}`, 204)
+	rows("ann", "cost=[12] department=[surgery] hired=[2020-02-01] mail=[ann@work] manager=[chief] may=[x-ray] "+
+		"role=[lead nurse]")
+	patch("/Groups/"+inner, `{"op":"add","path":"members","value":[{"value":"`+ann+`"}]}`, 204)
 	if got := f.scim(t, http.MethodPut, "/Users/"+ann, aUser("ann", `,"roles":["nurse"]`)); got.status != 200 {
 		t.Errorf("%+v", got)
 	}

@@ -35,6 +35,8 @@ const some = (names) => names.slice(0, 3).map(shown).join(', ')
 
 /** How many rows are made at once: the others follow while nothing else happens. */
 const AT_ONCE = 200;
+/** How many rows stand together: what isn't in sight of these isn't laid out. */
+const TOGETHER = 50;
 
 /** A list of rows. Who is told that the mark moved shows the row at the side. */
 export class SignList {
@@ -44,7 +46,7 @@ export class SignList {
     /** @type {ListRow[]} */
     this.rows = [];
     this.at = 0;
-    /** @type {string[]} what each row that is made shows */
+    /** @type {{shows: string, made: HTMLElement}[]} the rows that are made, and what each shows */
     this.drawn = [];
     this.late = 0;
     this.box = el('div.items', { role: 'listbox', tabindex: 0, 'aria-label': 'What is to be signed', onkeydown: key });
@@ -57,10 +59,7 @@ export class SignList {
   fill(rows, at) {
     this.rows = rows;
     this.at = Math.max(0, Math.min(rows.length - 1, at));
-    while (this.drawn.length > rows.length) {
-      this.drawn.pop();
-      this.box.lastElementChild.remove();
-    }
+    while (this.drawn.length > rows.length) this.drawn.pop()?.made.remove();
     for (let i = 0; i < this.drawn.length; i += 1) this.draw(i);
     this.grow(Math.max(AT_ONCE, this.at + 1));
     this.mark();
@@ -74,8 +73,10 @@ export class SignList {
     clearTimeout(this.late);
     const from = this.drawn.length, last = Math.min(until, this.rows.length);
     for (let i = from; i < last; i += 1) {
-      this.drawn.push(this.shows(i));
-      this.box.append(this.made(i));
+      this.drawn.push({ shows: this.shows(i), made: this.made(i) });
+      const part = Math.floor(i / TOGETHER);
+      if (!this.box.children[part]) this.box.append(el('div.part', { role: 'presentation' }));
+      this.box.children[part].append(this.drawn[i].made);
     }
     if (last < this.rows.length) this.late = window.setTimeout(() => this.grow(this.drawn.length + AT_ONCE));
   }
@@ -111,9 +112,10 @@ export class SignList {
 
   /** @param {number} i */
   draw(i) {
-    if (!(i in this.drawn) || this.drawn[i] === this.shows(i)) return;
-    this.drawn[i] = this.shows(i);
-    this.box.children[i].replaceWith(this.made(i));
+    const old = this.drawn[i], shows = i in this.drawn ? this.shows(i) : '';
+    if (!old || old.shows === shows) return;
+    this.drawn[i] = { shows, made: this.made(i) };
+    old.made.replaceWith(this.drawn[i].made);
   }
 
   /** @param {ListRow} row */
@@ -133,7 +135,7 @@ export class SignList {
     this.draw(old);
     this.draw(this.at);
     this.mark();
-    this.box.children[this.at].scrollIntoView({ block: 'nearest' });
+    this.drawn[this.at].made.scrollIntoView({ block: 'nearest' });
     this.moved(this.row);
   }
 
