@@ -93,6 +93,9 @@ def try_signing(trial):
     listed = {role: (name, more) for role, name, more in tree(trial) if role in ('listbox', 'option', 'ListBoxOption')}
     trial.see('what a screen reader is told', 'listbox' in listed and any('option' in each.lower() for each in listed),
               True)
+    trial.press(Keys.ESCAPE, 'y')
+    await_rest(trial, 'dina by care-team')
+    trial.see('nothing is signed that isn’t shown', rows(trial), open_)
     trial.press('y')
     await_rows(trial, ['dina care-team kept', *open_[1:]])
     await_rest(trial, 'hana Hana Sato by care-team')
@@ -137,6 +140,14 @@ def falls(trial):
     trial.await_text('Not signed: hana by care-team: its answer isn’t the one that stood here.')
     states = office(trial, '/campaigns/2026-q4')['states']
     trial.see('nothing stale is signed', states['kept'], 0)
+    await_rest(trial, 'hana Hana Sato by doctors-in-need')
+    trial.press('n')
+    trial.all('#panel [name=line]')[0].send_keys('bruno', Keys.ENTER)
+    for _ in until('it is passed on'):
+        if 'hana doctors-in-need passed on' in rows(trial):
+            break
+    theirs = {each['person'] for each in office(trial, '/campaigns/2026-q4/items?reviewer=bruno')['groups']}
+    trial.see('whose it is now', theirs, {'hana', 'emil'})
 
 
 def edges(trial):

@@ -17,6 +17,13 @@ let late = 0;
 const mine = ({ reviewers, ended }) => (ended ? 0 : ownNames().reduce((count, own) =>
   count + (reviewers[own]?.open ?? 0) + (reviewers[own]?.fell ?? 0), 0));
 
+/**
+ * Where who asks signs: of all that may be seen what is his, if there is something.
+ * @param {Campaign} told
+ */
+const signingOf = ({ campaign, reviewers }) => ({ campaign: campaign.name, reviewer: may('campaign.all')
+  ? ownNames().find((own) => reviewers[own]) ?? '' : '' });
+
 /** @param {Campaign} told */
 const endWords = ({ campaign, ended }) => (ended ? `ended ${moment(ended.time)}` : campaign.ends ?? 'when it is ended');
 
@@ -26,7 +33,7 @@ const HEADS = ['Campaign', 'Opened', 'Until', '#Cells', '#Signed', '#Fallen', '#
 const row = (told) => [link('campaign', { campaign: told.campaign.name }, name(told.campaign.name)),
   [moment(told.time), el('div.quiet', {}, 'by ', name(told.by))], endWords(told), number(told.items),
   number(signedOf(told)), number(told.states.fell ?? 0), number(told.states.open ?? 0), number(mine(told)),
-  may('campaign.items') ? link('signing', { campaign: told.campaign.name }, mine(told) ? 'Sign' : 'Its list') : ''];
+  may('campaign.items') ? link('signing', signingOf(told), mine(told) ? 'Sign' : 'Its list') : ''];
 
 /** @param {HTMLElement} place @param {URLSearchParams} _ @param {() => boolean} isOpen */
 export async function show(place, _, isOpen) {

@@ -2,7 +2,7 @@
 // a button, and is refused while the side doesn't show that row.
 import { desk, may } from './state.js';
 import { listen } from './live.js';
-import { address, el, link, moment, number, plural, say, shown } from './words.js';
+import { address, el, field, link, moment, number, plural, say, shown } from './words.js';
 import { bar, menu, printing } from './bar.js';
 import { hooks, isBusy, own, sign, undo } from './acts.js';
 import { close } from './panel.js';
@@ -70,8 +70,10 @@ function isReady() {
   const { row } = list;
   if (!row || campaign.ended || !isKnown()) return false;
   if (row.waits) say('The last act of this row is on its way.');
-  else if (side.row !== row) say('Not yet: what it rests on isn’t here.');
-  else return true;
+  else if (side.row !== row) {
+    say('Not yet: what it rests on isn’t here.');
+    if (field('panel').hidden) moved(row);
+  } else return true;
   return false;
 }
 
@@ -83,6 +85,7 @@ function signed(kind, more, row = list.row) {
   note.replaceChildren();
   sign(name, row, kind, serial, more);
   list.drawRow(row);
+  list.box.focus();
   drawHead();
   const next = list.next(), word = `${shown(row.group.person)}: ${stateWords(row.state)}.`;
   if (next < 0) {
@@ -115,6 +118,7 @@ const acts = {
     }
     const at = list.rows.indexOf(row);
     if (at >= 0) list.go(at);
+    list.box.focus();
     drawHead();
     say(`Taken back: ${shown(row.group.person)}`);
   },

@@ -185,6 +185,6 @@ export async function showRow(campaign, row, acts, isEnded) {
     row.fault ? el('p.fault', { role: 'alert' }, 'Not signed: ', name(row.fault), '. Look at it again.') : null,
     whatHappened(group), buttons(row, acts, isEnded), el('div.line'), el('h3', {}, plural(group.items.length, 'cell')),
     cells, rest,
-  ]);
+  ], () => { side.row = null; });
   await choose(first);
 }
