@@ -144,10 +144,10 @@ def falls(trial):
     trial.press('n')
     trial.all('#panel [name=line]')[0].send_keys('bruno', Keys.ENTER)
     for _ in until('it is passed on'):
-        if 'hana doctors-in-need passed on' in rows(trial):
+        theirs = {each['person'] for each in office(trial, '/campaigns/2026-q4/items?reviewer=bruno')['groups']}
+        if theirs == {'hana', 'emil'}:
             break
-    theirs = {each['person'] for each in office(trial, '/campaigns/2026-q4/items?reviewer=bruno')['groups']}
-    trial.see('whose it is now', theirs, {'hana', 'emil'})
+    trial.see('what is drawn', 'hana doctors-in-need passed on' in rows(trial), True)
 
 
 def edges(trial):
@@ -214,7 +214,8 @@ def try_campaign(trial):
     trial.await_text('What is to be revoked, and still there')
     told = trial.await_text('hana Hana Sato prescribe')
     for words in ('13 of 81 cells are signed (16 %): 11 kept, 2 to revoke, 0 revoked. 6 fell, 62 are to do.',
-                  'values of dina set', 'certified-doctors', '“a trainee prescribes nothing”', 'bruno', 'record-*, scan-*'):
+                  'values of dina set', 'certified-doctors', '“a trainee prescribes nothing”', 'bruno',
+                  'record-*, scan-*'):
         trial.see(f'the board says {words}', words in told, True)
     trial.click('What would take it away?')
     told = trial.await_text('Without the value, so much of this task would be gone')
