@@ -225,6 +225,12 @@ def try_campaign(trial):
     trial.picture('campaign-1024')
     sized(trial.browser, 1400, 800)
     evidence(trial)
+    trial.go('#table?action=read&find=hana')
+    for _ in until('the table has what people are called'):
+        if trial.browser.execute_script('return window.desk?.grid?.picture.rowText(0)') == 'hana Hana Sato':
+            break
+    trial.go('#campaign?campaign=2026-q4')
+    trial.await_text('End this campaign')
     trial.click('ada', 'main a')
     await_rows(trial, ['dina care-team fallen'])
     trial.await_text('ada reviews this.', '#panel')
@@ -235,6 +241,11 @@ def try_campaign(trial):
     trial.click('End this campaign')
     trial.click('End it now, for good')
     trial.await_text('Ended by office')
+    office(trial, '/campaigns', {**CAMPAIGN, 'name': '2027-q1', 'after': '2026-q4'})
+    trial.click('Leave')
+    come_in(trial, 'ada', '#signing?campaign=2027-q1')
+    await_rows(trial, ['dina care-team to do'])
+    trial.await_text('Its sign-off in the campaign before fell.', '#panel')
 
 
 def evidence(trial):

@@ -13,7 +13,9 @@ import { CELL, inks, sprites, Writer } from './draw.js';
  *   letter: (i: number, j: number) => string, hasChanges: () => boolean, isChanged: (i: number, j: number) => boolean,
  *   names: (i: number, j: number) => string, opens: (i: number, j: number) => void,
  *   opensRow: (i: number) => void, opensColumn: (j: number) => void,
+ *   rowText: (i: number) => string, columnText: (j: number) => string, rowRoom: number, columnRoom: number,
  * }} Picture
+ * What is drawn of a name is its text, which may have more than the name, and then has as much more room.
  */
 
 export class Grid {
@@ -100,8 +102,10 @@ export class Grid {
     brush.setTransform(1, 0, 0, 1, 0, 0);
     const room = (/** @type {number} */ least, /** @type {number} */ all, /** @type {number} */ wanted) =>
       Math.round(Math.max(least, Math.min(all < 500 ? all * 0.45 : all / 3, wanted)));
-    this.left = room(110, scroller.clientWidth, writer.longest(picture.rows, picture.rowName) + 82);
-    this.top = room(64, scroller.clientHeight, writer.longest(picture.columns, picture.columnName) + 40);
+    this.left = room(110, scroller.clientWidth, writer.longest(picture.rows, picture.rowName)
+      + picture.rowRoom + 82);
+    this.top = room(64, scroller.clientHeight, writer.longest(picture.columns, picture.columnName)
+      + picture.columnRoom + 40);
   }
 
   /** What is in sight. */
@@ -186,7 +190,7 @@ export class Grid {
     const { picture, writer, top, left, ink } = this;
     for (let i = firstRow; i < lastRow; i += 1) {
       const line = top + i * CELL - y + CELL / 2 + 1;
-      writer.write(writer.fit(picture.rowName(i), left - 70), 12, line, { size: 13, isBold: i === at.row });
+      writer.write(writer.fit(picture.rowText(i), left - 70), 12, line, { size: 13, isBold: i === at.row });
       writer.write(picture.rowTotal(i), left - 12, line, { size: 12, align: 'right', color: ink.quiet });
     }
   }
@@ -199,7 +203,7 @@ export class Grid {
       brush.save();
       brush.translate(middle + 1, top - 22);
       brush.rotate(-Math.PI / 2);
-      writer.write(writer.fit(picture.columnName(j), top - 28), 0, 0, { size: 12, isBold: j === at.column });
+      writer.write(writer.fit(picture.columnText(j), top - 28), 0, 0, { size: 12, isBold: j === at.column });
       brush.restore();
       writer.write(total, middle, top - 10, { size: total.length > 3 ? 9 : 10, align: 'center', color: ink.quiet });
     }
@@ -229,8 +233,8 @@ export class Grid {
       picture.isChanged(row, column) ? ', changed' : ''}`));
     for (const each of [cell, this.rowHead]) each.setAttribute('aria-rowindex', String(row + 2));
     for (const each of [cell, this.columnHead]) each.setAttribute('aria-colindex', String(column + 2));
-    this.rowHead.textContent = shown(picture.rowName(row));
-    this.columnHead.textContent = shown(picture.columnName(column));
+    this.rowHead.textContent = shown(picture.rowText(row));
+    this.columnHead.textContent = shown(picture.columnText(column));
   }
 
   /**

@@ -5,6 +5,7 @@ import { changed, desk, keyOf, listsAt } from './state.js';
 import { el, mark, number, address, letterOf, kindOf, plural, shown } from './words.js';
 import { KEYS, counted, deciding, forgetValues, isPlain, menus, passing, valuesOf } from './filters.js';
 import { openCell } from './cell.js';
+import { whoLine } from './called.js';
 import { bar, labelled, menu, finding, printing } from './bar.js';
 
 /** @typedef {import('./filters.js').Filter} Filter */
@@ -129,11 +130,15 @@ function openName(list, n) {
 function picture(from) {
   const [rows, columns] = /** @type {('people' | 'resources')[]} */ (filter.turned ? ['resources', 'people']
     : ['people', 'resources']);
-  const isNow = !filter.at;
+  const isNow = !filter.at, text = (/** @type {List} */ list, /** @type {string} */ each) =>
+    (list === 'people' ? whoLine(each, redraw) : each);
+  const room = (/** @type {List} */ list) => (list === 'people' && desk.who.called ? 110 : 0);
   return {
     rows: passed[rows].length, columns: passed[columns].length,
     label: shown(`${filter.action}: ${rows} by ${columns}`), corner: rows === 'people' ? 'Person' : 'Resource',
     rowName: (i) => lists[rows][passed[rows][i]], columnName: (j) => lists[columns][passed[columns][j]],
+    rowText: (i) => text(rows, lists[rows][passed[rows][i]]), rowRoom: room(rows),
+    columnText: (j) => text(columns, lists[columns][passed[columns][j]]), columnRoom: room(columns),
     rowTotal: (i) => permits(rows, i), columnTotal: (j) => permits(columns, j),
     letter: (i, j) => from.at(i, j), hasChanges: () => isNow && changed.size > 0,
     isChanged: (i, j) => isNow && changed.size > 0 && changed.has(keyOf(...three(i, j))),
