@@ -25,6 +25,9 @@ let kept = [];
 /** Whether acts are on their way. */
 export const isBusy = () => waiting > 0;
 
+// Who leaves the page meanwhile is asked whether she will.
+window.addEventListener('beforeunload', (event) => { if (isBusy()) event.preventDefault(); });
+
 /** @param {ListRow} row */
 export const itemsOf = (row) => row.group.items.map((each) => each.item);
 

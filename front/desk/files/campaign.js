@@ -129,9 +129,9 @@ function ending() {
 /** @param {HTMLElement} place @param {URLSearchParams} query @param {() => boolean} isOpen */
 export async function show(place, query, isOpen) {
   const wanted = query.get('campaign') ?? '';
-  const [told_, tasks] = await Promise.all([read(wanted), may('campaign.tasks') ? tasksOf(wanted) : null]);
+  const [far, tasks] = await Promise.all([read(wanted), may('campaign.tasks') ? tasksOf(wanted) : null]);
   if (!isOpen()) return;
-  shown = told_;
+  shown = far;
   const rest = shown.items - (shown.states.gone ?? 0);
   place.replaceChildren(bar(el('span.there', {}, link('campaigns', {}, 'All campaigns'), may('campaign.items')
     ? [' · ', link('signing', { campaign: wanted }, 'What there is to sign')] : null), printing()),

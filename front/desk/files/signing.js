@@ -6,7 +6,7 @@ import { address, el, field, link, moment, number, plural, say, shown } from './
 import { bar, menu, printing } from './bar.js';
 import { hooks, isBusy, own, sign, undo } from './acts.js';
 import { close } from './panel.js';
-import { campaign as told_, groupsOf, isKnown } from './reviewing.js';
+import { campaign as campaignOf, groupsOf, isKnown } from './reviewing.js';
 import { SignList, actionsOf, isToDo, resourcesOf, rulesIn, stateWords } from './signlist.js';
 import { askLine, forget, prefetch, showRow, side } from './signside.js';
 import { pathWords } from './cell.js';
@@ -28,6 +28,8 @@ let list;
 let head;
 /** @type {HTMLElement} */
 let note;
+/** @type {HTMLElement} */
+let empty;
 let stop = () => {};
 
 /** What came since the last sign-off stands first: what fell, then what has another answer. */
@@ -140,10 +142,13 @@ function key(event) {
 /** The groups as rows, those of before in their places. */
 async function read() {
   const asked = { reviewer: reviewer || undefined, state: only ? only.split(' ') : undefined };
-  const [now, all] = await Promise.all([told_(name), groupsOf(name, asked)]);
+  const [now, all] = await Promise.all([campaignOf(name), groupsOf(name, asked)]);
   [campaign, serial, isMore] = [now, all.serial, all.more];
   return all.groups.map(rowOf);
 }
+
+/** Whether the list is the open view. */
+const isHere = () => Boolean(list?.box.isConnected);
 
 /**
  * Reads all anew where others did something or an act wasn't taken, and leaves the mark and the order as they are.
@@ -159,7 +164,7 @@ async function again() {
   if (!isNews) return;
   forget();
   const rows = await read().catch(() => null);
-  if (!rows || list !== old) return;
+  if (!rows || list !== old || !isHere()) return;
   if (isBusy()) {
     isDue = true;
     later();
@@ -183,6 +188,7 @@ function merge(rows) {
   const isSame = same >= 0 && row && rows[same].group.digest === row.group.digest && rows[same].state === row.state
     && rows[same].fault === row.fault;
   list.fill(rows, same >= 0 ? same : list.at);
+  empty.hidden = rows.length > 0;
   drawHead();
   if (isSame && side.row === row) side.row = list.row;
   else if (list.row) moved(list.row);
@@ -201,10 +207,12 @@ function anew() {
 }
 
 hooks.drawn = (row) => {
-  list?.drawRow(row);
-  if (row === list?.row && !row.waits && !row.fault) moved(row); // its history is another one
+  if (!isHere()) return;
+  list.drawRow(row);
+  if (row === list.row && !row.waits && !row.fault) moved(row); // its history is another one
 };
 hooks.failed = (row, words) => {
+  if (!isHere()) return; // it is to do when the list is opened again
   note.append(el('p.fault', { role: 'alert' }, `Not signed: ${shown(row.group.person)} by ${shown(
     rulesIn(row.group))}: ${shown(words)}.`));
   drawHead();
@@ -231,11 +239,12 @@ export async function show(place, query, isOpen) {
   list = new SignList(moved, key);
   head = el('span.progress', { role: 'status' });
   note = el('div');
+  empty = el('p.empty', { hidden: rows.length > 0 }, 'Nothing is here to be signed.');
   const { ends } = campaign.campaign;
   place.replaceChildren(top(), el('div.keys.lines', {}, el('span', {}, link('campaign', { campaign: name }, name),
     campaign.ended ? `, ended ${moment(campaign.ended.time)}` : ends ? `, until ${ends}` : ''), head,
   isMore ? `The first ${plural(rows.length, 'row')} are here.` : ''), note,
-  rows.length ? list.box : el('p.empty', {}, 'Nothing is here to be signed.'),
+  empty, list.box,
   el('p.keys', {}, 'J and K or the arrows move, Y keeps, X asks to revoke, N passes on, U takes the last act back. ',
     'What fell, and what has another answer than before, stands first.'));
   list.fill(rows, Math.max(0, rows.findIndex(isToDo)));
@@ -286,10 +295,10 @@ export function sheet() {
 
 /**
  * Rows of a campaign on paper.
- * @param {string} title_ @param {string[]} filter @param {ListRow[]} rows @returns {Sheet}
+ * @param {string} what @param {string[]} filter @param {ListRow[]} rows @returns {Sheet}
  */
-export const sheetOf = (title_, filter, rows) => ({
-  title: title_, filter, heads: ['Person', 'Rule', 'Actions', 'Resources', '#Cells', 'Reviewer', 'State', 'Signed by',
+export const sheetOf = (what, filter, rows) => ({
+  title: what, filter, heads: ['Person', 'Rule', 'Actions', 'Resources', '#Cells', 'Reviewer', 'State', 'Signed by',
     'When', '#Serial', 'Because', 'Ended by', 'Digest of the answers'],
   rows: rows.map(({ group, state }) => {
     const [{ signed, by }] = group.items;

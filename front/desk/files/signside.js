@@ -93,8 +93,8 @@ function cellsOf(group, of, choose) {
     onclick: () => choose(item) }, name(item.resource));
   return el('table.facts', { 'aria-label': 'The cells' }, actionsOf(group).map((action) => {
     const items = group.items.filter((each) => each.action === action);
-    return el('tr', {}, el('td', {}, name(action)), el('td', {}, few(items.map((each) => String(each.item)),
-      (number_) => button(/** @type {Item} */ (items.find((each) => String(each.item) === number_))), 20)));
+    return el('tr', {}, el('td', {}, name(action)), el('td', {}, few(items.map((_, i) => String(i)),
+      (i) => button(items[Number(i)]), 20)));
   }));
 }
 
