@@ -84,6 +84,7 @@ def try_signing(trial):
     open_ = ['dina care-team to do', 'hana care-team to do', 'hana certified-doctors to do',
              'hana doctors-in-need to do']
     await_rows(trial, open_)
+    trial.await_text('Live · serial 74', '#live')
     await_rest(trial, 'dina by care-team')
     trial.see('what a person is called', 'hana Hana Sato' in trial.text('.items'), True)
     told = trial.text('#panel')
@@ -194,6 +195,10 @@ def try_fast_signing(trial):
     trial.see('signed twice', twice, [])
     trial.see('something was signed', len(kept) >= 1, True)
     trial.see('what is drawn is what is kept', drawn.count('kept'), len(kept))
+    trial.front.kill()
+    trial.await_text('The service is away since', '#live')
+    trial.front.start()
+    trial.await_text('Live · serial', '#live')
 
 
 def try_campaign(trial):

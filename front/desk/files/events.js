@@ -70,6 +70,7 @@ export async function hear(address, shows, hears, ended, from) {
       const answer = await fetch(address, { headers, cache: 'no-store', signal: once.signal });
       status = answer.status;
       if (status === 200 && answer.body) {
+        hears.state('live', 200);
         await readAll(answer.body, (told) => {
           if (told.id) last = told.id;
           hears.state('live', 200);

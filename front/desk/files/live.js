@@ -7,6 +7,12 @@ import { hear } from './events.js';
 
 const STILL = 60000;
 
+/**
+ * Who shows whether the page hears what happens.
+ * @type {{state: (state: string, status: number) => void}}
+ */
+export const header = { state() {} };
+
 /** The address of the worker, as Trusted Types have it. */
 function workerAddress() {
   const address = new URL('./worker.js', import.meta.url).href;

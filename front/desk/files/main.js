@@ -3,7 +3,7 @@ import { ask, hooks, keepKnown, keepToken, record, token, wasKnown, Problem } fr
 import { changed, desk, may, readLists, take } from './state.js';
 import { address, el, field, number, moment } from './words.js';
 import { close } from './panel.js';
-import { listen } from './live.js';
+import { header, listen } from './live.js';
 import { askToken } from './coming.js';
 import { opened } from './paper.js';
 import { unknown } from './front.js';
@@ -156,17 +156,16 @@ function begun() {
     drawLive();
     return;
   }
-  silence = listen({
-    event: (told) => { if (told.event !== 'message' || told.id) hear(told); },
-    state(state, status) {
-      const next = state === 'away' && status === 403 ? 'barred' : state;
-      if (status === 401) comeIn(new Problem(401, {}));
-      if (next !== desk.live) desk.since = new Date();
-      desk.live = next;
-      drawLive();
-    },
-  });
+  silence = listen({ event: (told) => { if (told.event !== 'message' || told.id) hear(told); }, state: header.state });
 }
+
+header.state = (state, status) => {
+  const next = state === 'away' && status === 403 ? 'barred' : state;
+  if (status === 401) comeIn(new Problem(401, {}));
+  if (next !== desk.live) desk.since = new Date();
+  desk.live = next;
+  drawLive();
+};
 
 /** The questions that are told in parts, where the program has them and who asks may ask them. */
 const PARTS = ['grid', 'totals', 'values', 'rules', 'grants', 'conflicts', 'alone', 'causes'];

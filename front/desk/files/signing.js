@@ -1,7 +1,7 @@
 // Signing: a reviewer's list, a row for a person and the rules that give what she may. An act is for a row, by a key or
 // a button, and is refused while the side doesn't show that row.
 import { desk, may } from './state.js';
-import { listen } from './live.js';
+import { header, listen } from './live.js';
 import { address, el, field, link, moment, number, plural, say, shown } from './words.js';
 import { bar, menu, printing } from './bar.js';
 import { hooks, isBusy, own, sign, undo } from './acts.js';
@@ -171,6 +171,8 @@ async function again() {
     return;
   }
   merge(rows);
+  desk.serial = Math.max(desk.serial, serial);
+  if (!may('notices')) header.state('live', 200);
   took = performance.now() - started;
 }
 
@@ -265,7 +267,10 @@ const hearing = (isOpen) => listen({
     heard.add(Number(id));
     later();
   },
-  state() {},
+  state(state, status) { // who hears no edits hears of the campaign
+    desk.serial = Math.max(desk.serial, serial);
+    if (!may('notices') && isOpen()) header.state(state, status);
+  },
 }, `campaigns/${name}/events`, campaign.up_to);
 
 /**
@@ -284,6 +289,7 @@ export function left() {
   stop();
   stop = () => {};
   clearTimeout(late);
+  if (!may('notices')) header.state('barred', 0);
 }
 
 /** @returns {Sheet} */
