@@ -139,6 +139,7 @@ web/kubernetes.go . TestKubernetes s/told\.Refused == noRequest {/told.Refused =
 web/kubernetes.go . TestKubernetesRoles s/^\ts\.keepAll(r, all)$//
 decisions/decisions.go decisions TestFiles s/|| isOther) {/|| false \&\& isOther) {/
 web/server.go . TestTraced s/trace != "" && a\.status/false \&\& a.status/
+keeper/compare.go keeper TestRoom s/takes > free {$/takes > 2*free {/
 keeper/compared.go keeper TestWrongTells s/^\t\t\ts\.tell(doubted).*$//
 keeper/compared.go keeper TestStrayLater s/return fmt\.Errorf("the edits on disk can't be compared.*$/_ = err/
 keeper/compared.go . TestLogAstray s/if sum != own\.Sum {/if sum != own.Sum \&\& false {/

@@ -4,12 +4,15 @@ import (
 	"bufio"
 	"bytes"
 	"context"
+	"encoding/json"
 	"errors"
 	"fmt"
 	"io"
 	"os"
 	"os/exec"
 	"runtime"
+	"strconv"
+	"strings"
 	"syscall"
 
 	"review-front/folder"
@@ -17,6 +20,52 @@ import (
 
 // ErrModules says that nothing is compared, since the comparison has other modules.
 var ErrModules = errors.New("what would change is told of two modules of attributes and two of policies")
+
+// comparedBytes is about how much memory a comparison takes of a cell: it has both tables as they are told.
+const comparedBytes = 6 << 10
+
+// Room says that there isn't the memory that a comparison takes.
+type Room struct{ Takes, Free uint64 }
+
+func (r *Room) Error() string {
+	return fmt.Sprintf("comparing two tables takes some %d MB of memory, and %d MB are free", r.Takes>>20, r.Free>>20)
+}
+
+// roomFor sees that there is the memory to compare so many cells, where it is known how much there is.
+func roomFor(cells, free uint64) error {
+	if takes := cells * comparedBytes; free > 0 && takes > free {
+		return &Room{Takes: takes, Free: free}
+	}
+	return nil
+}
+
+// hasRoom sees that there is the memory to compare the table with another one, before that is begun.
+func (k *Keeper) hasRoom(ctx context.Context) error {
+	reply := k.Ask(ctx, []byte(`{"do":"state"}`))
+	if reply.Err != nil {
+		return reply.Err
+	}
+	var told struct{ State struct{ Cells uint64 } }
+	if json.Unmarshal(reply.Body, &told) != nil {
+		return nil // a program that doesn't tell it
+	}
+	return roomFor(told.State.Cells, freeMemory("/proc/meminfo"))
+}
+
+// freeMemory is how much memory the system could give, by such a file, or 0 where it doesn't say that.
+func freeMemory(path string) uint64 {
+	told, err := os.ReadFile(path)
+	if err != nil {
+		return 0
+	}
+	for _, l := range strings.Split(string(told), "\n") {
+		if fields := strings.Fields(l); len(fields) > 1 && fields[0] == "MemAvailable:" {
+			kilobytes, _ := strconv.ParseUint(fields[1], 10, 50)
+			return kilobytes << 10
+		}
+	}
+	return 0
+}
 
 // compareModules is how many modules of each sort the states have that are compared.
 const compareModules = 2
@@ -35,6 +84,9 @@ const (
 func (k *Keeper) Compare(ctx context.Context, changes []byte) ([]byte, uint64, error) {
 	if k.Command.AttributeModules != compareModules || k.Command.PolicyModules != compareModules {
 		return nil, 0, ErrModules
+	}
+	if err := k.hasRoom(ctx); err != nil {
+		return nil, 0, err
 	}
 	state, lines, err := os.Pipe()
 	if err != nil {

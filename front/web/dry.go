@@ -35,6 +35,11 @@ func (s *Server) dry(w *answered, r *http.Request) {
 		problem{Title: "it takes too long", Status: http.StatusUnprocessableEntity, Detail: late}.send(w)
 		return
 	}
+	var room *keeper.Room
+	if errors.As(err, &room) {
+		problem{Title: "it takes too much memory", Status: http.StatusUnprocessableEntity, Detail: err.Error()}.send(w)
+		return
+	}
 	if errors.Is(err, keeper.ErrModules) {
 		problem{Title: "other modules", Status: http.StatusNotImplemented, Detail: err.Error()}.send(w)
 		return
