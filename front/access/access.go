@@ -185,7 +185,9 @@ func (k *known) byClaims(claims map[string][]string, until time.Time) (*Identity
 	if k.names[looks(claims["sub"][0])] {
 		return nil, ErrTaken
 	}
-	who := &Identity{Name: claims["sub"][0], Claims: claims, Until: until, may: map[string]bool{}, roles: map[string]bool{}}
+	who := &Identity{
+		Name: claims["sub"][0], Claims: claims, Until: until, may: map[string]bool{}, roles: map[string]bool{},
+	}
 	found := false
 	for _, u := range k.users {
 		if !u.isMeant(claims) {

@@ -140,7 +140,7 @@ impl<E: Evaluates> Live<E> {
     }
 
     /// Makes each cell right again, where those that read none of the changed keys are, and tells the old answers of
-    /// those that get another one. It answers anew the cells whose own reads have a changed key, each once and no other.
+    /// those that get another one. It answers anew the cells whose own reads have a changed key, each once, no other.
     /// There is room in the log for the old answers then, and for the answer of each cell; nothing is logged. After a
     /// refusal the cells are as before.
     ///
